@@ -1,0 +1,30 @@
+-- `wrapping_add`: the meaning of a row, the column that it gives, and the columns that it takes.
+use Rattle.std.specs.Prelude.{◌≡◌, ℕ, ℤ, pos, List, [], ◌∷◌, length}
+use Rattle.std.specs.Int.{w64, int_wrapping_add}
+use Rattle.colbase.specs.declared.dtype.PType.TheVariants.{I64}
+use Rattle.colbase.specs.declared.dtype.Nullability.TheVariants.{NonNullable}
+use Rattle.colbase.specs.declared.values.PrimitiveValues.TheVariants as values
+use Rattle.colbase.specs.Cell.{Cell, number}
+use Rattle.colbase.specs.Column.{Column}
+use Rattle.colbase.specs.LogicalType as type
+use Rattle.colbase.specs.Arrays.{Array, primitive}
+use Rattle.rowexec.specs.Strict.{strict, stated_type}
+
+-- the sum of two i64 modulo 2^64, as an i64; no other cells are read
+abbrev pub wrapping_sum : List Cell → Cell
+wrapping_sum (number x ∷ number y ∷ []) = number (int_wrapping_add w64 x y)
+wrapping_sum _ = number (pos 0)
+
+-- the column of the sums of n rows
+abbrev pub wrapping_sums : List Column → ℕ → Column
+wrapping_sums columns n = record { dtype = stated_type (type.primitive I64 NonNullable) columns; rows = strict wrapping_sum columns n }
+
+-- a primitive layout of n values of i64
+abbrev pub IsI64Array : Array → ℕ → Type 0
+IsI64Array (primitive (values.I64 xs) validity) n = length xs ≡ n
+IsI64Array _ n = ⊥
+
+-- two such arrays
+abbrev pub AreAddends : List Array → ℕ → Type 0
+AreAddends (lhs ∷ rhs ∷ []) n = IsI64Array lhs n × IsI64Array rhs n
+AreAddends _ n = ⊥

@@ -1,0 +1,6 @@
+//! Execution of row functions over whole columns.
+#![tactic(auto)]
+
+mod wrapping_add;
+
+pub use wrapping_add::execute_wrapping_add;
