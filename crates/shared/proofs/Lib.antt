@@ -1,0 +1,3 @@
+mod Cut
+pub mod Parts
+mod Steps
