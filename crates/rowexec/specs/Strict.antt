@@ -4,7 +4,8 @@ use Rattle.bitlane.specs.Bits.{tabulate}
 use Rattle.colbase.specs.declared.dtype.Nullability.TheVariants.{Nullable}
 use Rattle.colbase.specs.Cell.{Cell}
 use Rattle.colbase.specs.Column.{Column}
-use Rattle.colbase.specs.LogicalType.{LogicalType, nullability_of, with_nullability, is_nullable}
+use Rattle.colbase.specs.Fits.{is_nullable}
+use Rattle.colbase.specs.LogicalType.{LogicalType, nullability_of, with_nullability}
 
 -- the cells of the arguments at row i, where none of them is null there: the row is full
 abbrev pub full_row : List Column → ℕ → Option (List Cell)

@@ -1,5 +1,5 @@
 -- `wrapping_add`: the meaning of a row, the column that it gives, and the columns that it takes.
-use Rattle.std.specs.Prelude.{◌≡◌, ℕ, ℤ, pos, List, [], ◌∷◌, length}
+use Rattle.std.specs.Prelude.{◌≡◌, ℕ, ℤ, pos, List, [], ◌∷◌}
 use Rattle.std.specs.Int.{w64, int_wrapping_add}
 use Rattle.colbase.specs.declared.dtype.PType.TheVariants.{I64}
 use Rattle.colbase.specs.declared.dtype.Nullability.TheVariants.{NonNullable}
@@ -7,7 +7,7 @@ use Rattle.colbase.specs.declared.values.PrimitiveValues.TheVariants as values
 use Rattle.colbase.specs.Cell.{Cell, number}
 use Rattle.colbase.specs.Column.{Column}
 use Rattle.colbase.specs.LogicalType as type
-use Rattle.colbase.specs.Arrays.{Array, primitive}
+use Rattle.colbase.specs.Arrays.{Array, primitive, len}
 use Rattle.rowexec.specs.Strict.{strict, stated_type}
 
 -- the sum of two i64 modulo 2^64, as an i64; no other cells are read
@@ -19,12 +19,12 @@ wrapping_sum _ = number (pos 0)
 abbrev pub wrapping_sums : List Column → ℕ → Column
 wrapping_sums columns n = record { dtype = stated_type (type.primitive I64 NonNullable) columns; rows = strict wrapping_sum columns n }
 
--- a primitive layout of n values of i64
-abbrev pub IsI64Array : Array → ℕ → Type 0
-IsI64Array (primitive (values.I64 xs) validity) n = length xs ≡ n
-IsI64Array _ n = ⊥
+-- an array of the primitive layout with values of i64
+abbrev pub IsI64Array : Array → Type 0
+IsI64Array (primitive (values.I64 xs) validity) = Unit {0}
+IsI64Array _ = ⊥
 
--- two such arrays
+-- two such arrays of n rows
 abbrev pub AreAddends : List Array → ℕ → Type 0
-AreAddends (lhs ∷ rhs ∷ []) n = IsI64Array lhs n × IsI64Array rhs n
+AreAddends (lhs ∷ rhs ∷ []) n = IsI64Array lhs × IsI64Array rhs × (len lhs ≡ n) × (len rhs ≡ n)
 AreAddends _ n = ⊥
