@@ -1,0 +1,14 @@
+pub mod Cell
+pub mod LogicalType
+pub mod LogicalTypeOf
+pub mod CellOf
+pub mod Fits
+pub mod Column
+pub mod Valid
+pub mod Values
+pub mod Views
+pub mod Arrays
+pub mod ArrayCode
+pub mod ArrayOf
+pub mod Parts
+pub mod Faults

@@ -1,0 +1,57 @@
+ghost use Rattle.std.specs.Prelude.{◌≡◌, ◌↔◌, IsTrue, None, option_map};
+ghost use Rattle.std.specs.Option.{option_copied};
+ghost use Rattle.colbase.specs.LogicalTypeOf.{logical_type};
+ghost use Rattle.colbase.specs.LogicalType.{nullability_of};
+ghost use Rattle.colbase.specs.CellOf.{cell_of};
+ghost use Rattle.colbase.specs.Fits.{fits_type};
+
+use super::{Scalar, ScalarValue};
+use crate::dtype::{DType, Nullability};
+
+impl Scalar {
+    /// The null of a nullable type.
+    pub fn null(dtype: DType) -> Scalar
+        requires { nullability_of (logical_type dtype) ≡ Nullability.Nullable }
+        ensures dtype { result.dtype ≡ dtype }
+        ensures value { result.value ≡ None }
+    {
+        Scalar { dtype, value: None }
+    }
+
+    pub fn dtype(&self) -> &DType
+        ensures { result.now ≡ self.now.dtype }
+    {
+        &self.dtype
+    }
+
+    pub fn value(&self) -> Option<&ScalarValue>
+        ensures { option_copied result ≡ self.now.value }
+    {
+        self.value.as_ref()
+    }
+
+    pub fn is_null(&self) -> bool
+        ensures { IsTrue result ↔ (self.now.value ≡ None) }
+    {
+        self.value.is_none()
+    }
+
+    /// Another owner of the same type and value.
+    pub fn share(&self) -> Scalar
+        ensures { result ≡ self.now }
+    {
+        let dtype = self.dtype.share();
+        let value = match &self.value {
+            None => None,
+            Some(value) => Some(value.share()),
+        };
+        Scalar { dtype, value }
+    }
+
+    /// Says that the value is of the type. Costs nothing.
+    pub fn checks(&self)
+        ensures { IsTrue (fits_type (option_map cell_of self.now.value) (logical_type self.now.dtype)) }
+    {
+        let _ = &self.dtype;
+    }
+}
