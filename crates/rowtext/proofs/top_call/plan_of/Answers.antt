@@ -1,0 +1,10 @@
+use Rattle.std.proofs.Common.{refl, sym, rules}
+use Rattle.rowtext.specs.Causes.{usage, of_words}
+use Rattle.rowtext.proofs.top_call.plan_of.Goals as goal
+
+pub returns-in-Unknown-clause-cause : goal.returns-in-Unknown-clause-cause
+returns-in-Unknown-clause-cause g c = usage (sym c.in-Unknown.ensures) refl
+
+pub returns-in_ok-answer-in-WithoutInput-clause-cause : goal.returns-in_ok-answer-in-WithoutInput-clause-cause
+returns-in_ok-answer-in-WithoutInput-clause-cause g c =
+    of_words c.in_ok-answer-in-WithoutInput.answer (sym c.in-WithoutInput.ensures) refl (search rules)

@@ -1,0 +1,21 @@
+-- When a top call means to write what.
+use Rattle.std.specs.Prelude.{◌≡◌, ℕ, List, Bool, true, false}
+use Rattle.rowtext.specs.declared.plan.Answer.{Answer}
+use Rattle.rowtext.specs.declared.plan.Plan.{Plan}
+use Rattle.rowtext.specs.declared.plan.Plan.TheVariants.{Usage, Unread, Long, Answered}
+use Rattle.rowtext.specs.declared.command.Command.{Command}
+use Rattle.rowtext.specs.declared.command.Command.TheVariants.{Unknown, WithInput, WithoutInput}
+use Rattle.rowtext.specs.Changes.{Change, HasFailed, IsUntouched, TookFew, TookTooMany, TookAll}
+
+-- the command of a call whose known words all ask for an answer to the input
+abbrev pub input_command : Bool → Command
+input_command true = WithInput
+input_command false = Unknown
+
+-- The plan has its cause, by what the words ask for, what the words alone and the bytes of an input lead to, and what the call did to its source.
+pub data HasCause (command : Command) (words_lead : Answer → Type 0) (input_leads : List ℕ → Answer → Type 0) (source : Change) : Plan → Type 0 where
+  usage : command ≡ Unknown → IsUntouched source → HasCause command words_lead input_leads source Usage
+  unread : command ≡ WithInput → HasFailed source → TookFew source → HasCause command words_lead input_leads source Unread
+  long : command ≡ WithInput → TookTooMany source → HasCause command words_lead input_leads source Long
+  of_input : (answer : Answer) → command ≡ WithInput → TookAll source (λ bytes. input_leads bytes answer) → HasCause command words_lead input_leads source (Answered answer)
+  of_words : (answer : Answer) → command ≡ WithoutInput → IsUntouched source → words_lead answer → HasCause command words_lead input_leads source (Answered answer)

@@ -1,0 +1,7 @@
+pub mod Bytes
+pub mod Causes
+pub mod Changes
+pub mod FaultCounts
+pub mod Memory
+pub mod Outcomes
+pub mod Plans

@@ -1,0 +1,24 @@
+//! Where a program takes its bytes from and gives its text to, and how a top call goes from the one to the other.
+#![tactic(auto)]
+
+mod command;
+mod memory;
+mod plan;
+mod read;
+mod sink;
+mod source;
+mod standard;
+mod text;
+mod top_call;
+mod write;
+
+pub use command::Command;
+pub use memory::{MemorySink, MemorySource, NullSink, SteadySource};
+pub use plan::{Answer, Plan, write_plan};
+pub use read::{MAX_BYTES, ReadFault, read_whole};
+pub use sink::{Sink, SinkFailed};
+pub use source::{Source, SourceFailed};
+pub use standard::{StdSink, StdSource};
+pub use text::Text;
+pub use top_call::{TopCall, conduct};
+pub use write::write_whole;

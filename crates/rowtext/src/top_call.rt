@@ -1,0 +1,126 @@
+// One way for every top call: read, answer, write.
+ghost use Rattle.std.specs.Prelude.{◌≡◌, ◌≤◌, ℕ, List, map, string_bytes, IfOk};
+ghost use Rattle.rowtext.specs.Changes.{change};
+ghost use Rattle.rowtext.specs.Causes.{HasCause};
+ghost use Rattle.rowtext.specs.Outcomes.{Ends};
+
+use crate::{Answer, Command, Plan, ReadFault, Sink, Source, read_whole, write_plan};
+use std::alloc::{AllocError, Global};
+
+/// A top call over an engine: what its words ask for, and what it answers.
+///
+/// A call that needs no engine takes `&mut ()`.
+pub trait TopCall<E> {
+    ghost use Rattle.rowtext.specs.declared.command.Command.{Command};
+    ghost use Rattle.rowtext.specs.declared.plan.Answer.{Answer};
+
+    /// What the words ask for.
+    ghost command: { Self → List (List ℕ) → Command };
+
+    /// With these words the bytes of an input lead to this answer, between the engine as it was and as it is after.
+    ghost input_leads: { Self → E → E → List (List ℕ) → List ℕ → Answer → Type 0 };
+
+    /// These words alone lead to this answer, between the engine as it was and as it is after.
+    ghost words_lead: { Self → E → E → List (List ℕ) → Answer → Type 0 } = { λ _ _ _ _ _. ⊥ };
+
+    /// What the words ask for.
+    fn command(&self, words: &[String]) -> Command
+        ensures { result ≡ command self.now (map string_bytes words.now) };
+
+    /// The answer to all the bytes of an input.
+    fn answer_input(
+        &self,
+        alloc: Global,
+        words: &[String],
+        engine: &mut E,
+        bytes: &[u8],
+    ) -> Result<Answer, AllocError>
+        ensures { IfOk result (λ answer. input_leads self.now engine.old engine.new (map string_bytes words.now) bytes.now answer) };
+
+    /// The answer to words that need no input. A call that knows no such words keeps this body.
+    fn answer_words(
+        &self,
+        alloc: Global,
+        words: &[String],
+        engine: &mut E,
+    ) -> Result<Answer, AllocError>
+        requires { command self.now (map string_bytes words.now) ≡ Command.WithoutInput }
+        ensures { IfOk result (λ answer. words_lead self.now engine.old engine.new (map string_bytes words.now) answer) }
+    {
+        Err(AllocError)
+    }
+}
+
+/// What a call means to write that answers to its input.
+fn input_plan<E, C: TopCall<E>, S: Source>(
+    alloc: Global,
+    words: &[String],
+    call: &C,
+    engine: &mut E,
+    source: &mut S,
+) -> Result<Plan, AllocError>
+    requires { C.command call.now (map string_bytes words.now) ≡ Command.WithInput }
+    ensures cause { IfOk result (λ plan. HasCause (C.command call.now (map string_bytes words.now))
+        (C.words_lead call.now engine.old engine.new (map string_bytes words.now))
+        (C.input_leads call.now engine.old engine.new (map string_bytes words.now))
+        (change S.left S.faults source.old source.new) plan) }
+    ensures no_lower { S.faults source.old ≤ S.faults source.new }
+{
+    let bytes = match read_whole(alloc, source) {
+        Ok(bytes) => bytes,
+        Err(ReadFault::Failed) => return Ok(Plan::Unread),
+        Err(ReadFault::Long) => return Ok(Plan::Long),
+        Err(ReadFault::Memory) => return Err(AllocError),
+    };
+    let answer = call.answer_input(alloc, words, engine, &bytes)?;
+    Ok(Plan::Answered(answer))
+}
+
+/// What a call means to write.
+fn plan_of<E, C: TopCall<E>, S: Source>(
+    alloc: Global,
+    words: &[String],
+    call: &C,
+    engine: &mut E,
+    source: &mut S,
+) -> Result<Plan, AllocError>
+    ensures cause { IfOk result (λ plan. HasCause (C.command call.now (map string_bytes words.now))
+        (C.words_lead call.now engine.old engine.new (map string_bytes words.now))
+        (C.input_leads call.now engine.old engine.new (map string_bytes words.now))
+        (change S.left S.faults source.old source.new) plan) }
+    ensures no_lower { S.faults source.old ≤ S.faults source.new }
+{
+    match call.command(words) {
+        Command::Unknown => Ok(Plan::Usage),
+        Command::WithInput => input_plan(alloc, words, call, engine, source),
+        Command::WithoutInput => {
+            let answer = call.answer_words(alloc, words, engine)?;
+            Ok(Plan::Answered(answer))
+        }
+    }
+}
+
+/// Reads, answers and writes. The result is the status with which the program ends.
+///
+/// The whole text stands before its first byte is written, and writing takes no memory.
+pub fn conduct<E, C: TopCall<E>, S: Source, K: Sink>(
+    alloc: Global,
+    words: &[String],
+    call: &C,
+    engine: &mut E,
+    source: &mut S,
+    sink: &mut K,
+) -> u8
+    // Each status has its cause, and what was written goes with it.
+    ensures ends { Ends (HasCause (C.command call.now (map string_bytes words.now))
+        (C.words_lead call.now engine.old engine.new (map string_bytes words.now))
+        (C.input_leads call.now engine.old engine.new (map string_bytes words.now))
+        (change S.left S.faults source.old source.new)) result (change K.held K.faults sink.old sink.new) }
+    ensures source_faults { S.faults source.old ≤ S.faults source.new }
+    ensures sink_faults { K.faults sink.old ≤ K.faults sink.new }
+{
+    match plan_of(alloc, words, call, engine, source) {
+        Ok(plan) => write_plan(sink, &plan),
+        Err(AllocError) => 4,
+    }
+}
