@@ -1,5 +1,5 @@
 -- `wrapping_add`: the meaning of a row, the column that it gives, and the columns that it takes.
-use Rattle.std.specs.Prelude.{◌≡◌, ℕ, ℤ, pos, List, [], ◌∷◌}
+use Rattle.std.specs.Prelude.{◌≡◌, ℕ, pos, List, [], ◌∷◌}
 use Rattle.std.specs.Int.{w64, int_wrapping_add}
 use Rattle.colbase.specs.declared.dtype.PType.TheVariants.{I64}
 use Rattle.colbase.specs.declared.dtype.Nullability.TheVariants.{NonNullable}
