@@ -4,3 +4,6 @@
 mod wrapping_add;
 
 pub use wrapping_add::execute_wrapping_add;
+
+#[cfg(test)]
+mod tests;
