@@ -69,6 +69,7 @@ impl<T: Drop> SharedSlice<T> {
 }
 
 impl<T> SharedSlice<T> {
+    /// The elements, in order. A loop over many of them copies this slice into a local first.
     pub fn as_slice(&self) -> &[T]
         ensures { result.now ≡ self.now }
     {
@@ -81,6 +82,7 @@ impl<T> SharedSlice<T> {
         self.end - self.start
     }
 
+    /// The element at an index, if there is one.
     pub fn get(&self, index: usize) -> Option<&T>
         ensures { option_copied result ≡ slice_get self.now index }
     {

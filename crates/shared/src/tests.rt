@@ -1,7 +1,7 @@
 // Recursive types over the crate's owners, and what tests alone show: that values are read after owners are dropped.
 ghost use Rattle.std.specs.Prelude.{◌≡◌};
 
-use crate::{Items, Shared, SharedSlice};
+use crate::{Items, Shared, SharedSlice, at};
 
 /// A value tree, which reaches itself through a shared list of optional children.
 #[derive(Drop)]
@@ -79,6 +79,24 @@ fn a_tree_with_an_absent_child(rt: HostRuntime) {
     }
     assert_eq!(rt; leaf, -5);
     assert_eq!(rt; len, 2);
+}
+
+#[test]
+fn edits_of_items(rt: HostRuntime) {
+    let mut items = Items::from_slice(rt.alloc(), [5u8, 6, 7].as_slice()).expect(&rt, "memory");
+    if items.len() > 1 {
+        items.set(1, 9);
+    }
+    let vec = Vec::from_slice(rt.alloc(), [1u8, 2].as_slice()).expect(&rt, "memory");
+    items.append(Items::from_vec(vec)).expect(&rt, "memory");
+    assert_eq!(rt; items.as_slice(), [5u8, 9, 7, 1, 2].as_slice());
+    assert_eq!(rt; items.pop(), Some(2));
+    assert_eq!(rt; at(items.as_slice(), 2).copied(), Some(7));
+    if items.len() > 0 {
+        assert_eq!(rt; items.remove(0), 5);
+    }
+    assert_eq!(rt; items.as_slice(), [9u8, 7, 1].as_slice());
+    assert!(rt; !items.is_empty());
 }
 
 #[test]
