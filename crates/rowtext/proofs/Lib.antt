@@ -1,3 +1,4 @@
 pub mod Exact
+pub mod FromInput
 pub mod Pieces
 pub mod Statuses

@@ -41,13 +41,13 @@ of_one {cause = cause} {sink = sink} n only is_only not_memory not_cut (wrote pl
     let same : plan ≡ only = is_only plan (sym s ∙ is) in
     (subst cause same c, subst (λ (p : Plan). Gained sink (plan_text p)) same gained)
 
-of_zero : {cause : Plan → Type 0} {status : ℕ} {sink : Change} → Ends cause status sink → status ≡ 0 → (text : List ℕ) × cause (Answered (Printed text)) × Gained sink text
+pub of_zero : {cause : Plan → Type 0} {status : ℕ} {sink : Change} → Ends cause status sink → status ≡ 0 → (text : List ℕ) × cause (Answered (Printed text)) × Gained sink text
 of_zero (memory four kept) is = absurd (omega (arith, is, four))
 of_zero (wrote plan c (cut six failed prefix proper gained)) is = absurd (omega (arith, is, six))
 of_zero (wrote (Answered (Printed text)) c (whole s gained)) is = (text, c, gained)
 of_zero (wrote plan c (whole s gained)) is = absurd (omega (arith, is, s))
 
-of_three : {cause : Plan → Type 0} {status : ℕ} {sink : Change} → Ends cause status sink → status ≡ 3 → (text : List ℕ) × cause (Answered (Fault text)) × Gained sink text
+pub of_three : {cause : Plan → Type 0} {status : ℕ} {sink : Change} → Ends cause status sink → status ≡ 3 → (text : List ℕ) × cause (Answered (Fault text)) × Gained sink text
 of_three (memory four kept) is = absurd (omega (arith, is, four))
 of_three (wrote plan c (cut six failed prefix proper gained)) is = absurd (omega (arith, is, six))
 of_three (wrote (Answered (Fault text)) c (whole s gained)) is = (text, c, gained)

@@ -5,3 +5,4 @@ pub mod FaultCounts
 pub mod Memory
 pub mod Outcomes
 pub mod Plans
+pub mod Schedule

@@ -14,7 +14,7 @@ mod write;
 
 pub use command::Command;
 pub use memory::{MemorySink, MemorySource, NullSink, SteadySource};
-pub use plan::{Answer, Plan, write_plan};
+pub use plan::{Answer, Plan};
 pub use read::{MAX_BYTES, ReadFault, read_whole};
 pub use sink::{Sink, SinkFailed};
 pub use source::{Source, SourceFailed};
@@ -22,3 +22,8 @@ pub use standard::{StdSink, StdSource};
 pub use text::Text;
 pub use top_call::{TopCall, conduct};
 pub use write::write_whole;
+
+#[cfg(test)]
+mod tests;
+#[cfg(test)]
+mod top_call_tests;

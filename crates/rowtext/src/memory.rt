@@ -1,5 +1,8 @@
 // Sources and sinks over memory, for tests and for callers that have all the bytes.
-ghost use Rattle.std.specs.Prelude.{◌≡◌, ◌≤◌, ◌<◌, ◌-◌, [], length, drop, take, min, Some, None, IfOk, vec_capacity};
+ghost use Rattle.std.specs.Prelude.{◌≡◌, ◌≤◌, ◌<◌, ◌-◌, [], length, drop, take, min, Some, None, IfOk, vec_capacity, OnErr, is_err, ◌++◌, ◌||◌, ◌&&◌, ◌==◌, nat_lt};
+ghost use Rattle.rowtext.specs.Bytes.{Takes, IsAtEnd};
+ghost use Rattle.rowtext.specs.FaultCounts.{Counts, HasRisen};
+ghost use Rattle.rowtext.specs.Schedule.{called, fails_next};
 
 use crate::{Sink, SinkFailed, Source, SourceFailed};
 use std::alloc::{AllocError, Global};
@@ -56,6 +59,8 @@ fn copy_piece(bytes: &[u8], at: usize, piece: usize, buf: &mut [u8]) -> usize
 }
 
 impl MemorySource {
+    ghost use Rattle.rowtext.specs.Memory.{source_schedule};
+
     /// A source of these bytes that gives at most `piece` of them a call.
     ///
     /// It fails at each call whose number is in `fails`. Calls are counted from 1, those that fail among them.
@@ -63,6 +68,7 @@ impl MemorySource {
         requires { 0 < piece }
         ensures left { ⟦<MemorySource as Source>⟧.left result ≡ Some bytes.items }
         ensures faults { ⟦<MemorySource as Source>⟧.faults result ≡ 0 }
+        ensures schedule { source_schedule result ≡ record { piece = piece; fails = fails.items; calls = 0 } }
     {
         MemorySource {
             bytes,
@@ -76,13 +82,25 @@ impl MemorySource {
 }
 
 impl Source for MemorySource {
-    ghost use Rattle.rowtext.specs.Memory.{memory_left};
+    ghost use Rattle.rowtext.specs.Memory.{memory_left, source_schedule};
 
     ghost left = { λ s. Some (memory_left s) };
 
     ghost faults = { λ s. s.faults };
 
-    fn read(&mut self, buf: &mut [u8]) -> Result<usize, SourceFailed> {
+    fn read(&mut self, buf: &mut [u8]) -> Result<usize, SourceFailed>
+        // It fails exactly where its schedule says so, and else gives as many bytes as it can.
+        ensures fails { is_err result ≡ fails_next (source_schedule self.old) }
+        ensures given { IfOk result (λ n. n ≡ min self.old.piece (min (length buf.old) (length (memory_left self.old)))) }
+        ensures schedule { source_schedule self.new ≡ called (source_schedule self.old) }
+        // What every source promises.
+        ensures count { IfOk result (λ n. n ≤ length buf.new) }
+        ensures bytes { IfOk result (λ n. Takes (Some (memory_left self.old)) (take n buf.new) (Some (memory_left self.new))) }
+        ensures end { IfOk result (λ n. n ≡ 0 → 0 < length buf.new → IsAtEnd (Some (memory_left self.new))) }
+        ensures kept { OnErr result (memory_left self.new ≡ memory_left self.old) }
+        ensures counts { Counts self.old.faults self.new.faults }
+        ensures cause { OnErr result (HasRisen self.old.faults self.new.faults) }
+    {
         let faults = self.faults;
         self.calls = self.calls.saturating_add(1);
         if self.fails.contains(&self.calls) {
@@ -121,6 +139,8 @@ impl Source for SteadySource {
 }
 
 impl MemorySink {
+    ghost use Rattle.rowtext.specs.Memory.{sink_schedule};
+
     /// A sink with room for `room` bytes that takes at most `piece` of them a call.
     ///
     /// The room is allocated here, so a write takes no memory. The sink fails where its room is full, and at each
@@ -134,6 +154,8 @@ impl MemorySink {
         requires { 0 < piece }
         ensures held { IfOk result (λ s. ⟦<MemorySink as Sink>⟧.held s ≡ Some []) }
         ensures faults { IfOk result (λ s. ⟦<MemorySink as Sink>⟧.faults s ≡ 0) }
+        ensures room { IfOk result (λ s. s.room ≡ room) }
+        ensures schedule { IfOk result (λ s. sink_schedule s ≡ record { piece = piece; fails = fails.items; calls = 0 }) }
     {
         Ok(MemorySink {
             bytes: Vec::with_capacity(alloc, room)?,
@@ -154,13 +176,26 @@ impl MemorySink {
 }
 
 impl Sink for MemorySink {
-    ghost use Rattle.rowtext.specs.Memory.{memory_held};
+    ghost use Rattle.rowtext.specs.Memory.{memory_held, sink_schedule};
 
     ghost held = { λ s. Some (memory_held s) };
 
     ghost faults = { λ s. s.faults };
 
-    fn write(&mut self, bytes: &[u8]) -> Result<usize, SinkFailed> {
+    fn write(&mut self, bytes: &[u8]) -> Result<usize, SinkFailed>
+        // It fails exactly where its schedule says so or its room is full, and else takes as many bytes as it can.
+        ensures fails { is_err result ≡ (fails_next (sink_schedule self.old) || nat_lt 0 (length bytes.now) && (length (memory_held self.old) == self.old.room)) }
+        ensures taken { IfOk result (λ n. n ≡ min self.old.piece (min (length bytes.now) (self.old.room - length (memory_held self.old)))) }
+        ensures schedule { sink_schedule self.new ≡ called (sink_schedule self.old) }
+        ensures room { self.new.room ≡ self.old.room }
+        // What every sink promises.
+        ensures count { IfOk result (λ n. n ≤ length bytes.now) }
+        ensures some { IfOk result (λ n. 0 < length bytes.now → 0 < n) }
+        ensures bytes { IfOk result (λ n. memory_held self.new ≡ memory_held self.old ++ take n bytes.now) }
+        ensures kept { OnErr result (memory_held self.new ≡ memory_held self.old) }
+        ensures counts { Counts self.old.faults self.new.faults }
+        ensures cause { OnErr result (HasRisen self.old.faults self.new.faults) }
+    {
         let faults = self.faults;
         self.calls = self.calls.saturating_add(1);
         let count = self

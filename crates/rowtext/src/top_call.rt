@@ -4,7 +4,8 @@ ghost use Rattle.rowtext.specs.Changes.{change};
 ghost use Rattle.rowtext.specs.Causes.{HasCause};
 ghost use Rattle.rowtext.specs.Outcomes.{Ends};
 
-use crate::{Answer, Command, Plan, ReadFault, Sink, Source, read_whole, write_plan};
+use crate::plan::write_plan;
+use crate::{Answer, Command, Plan, ReadFault, Sink, Source, read_whole};
 use std::alloc::{AllocError, Global};
 
 /// A top call over an engine: what its words ask for, and what it answers.
@@ -94,8 +95,8 @@ fn plan_of<E, C: TopCall<E>, S: Source>(
         Command::Unknown => Ok(Plan::Usage),
         Command::WithInput => input_plan(alloc, words, call, engine, source),
         Command::WithoutInput => {
-            let answer = call.answer_words(alloc, words, engine)?;
-            Ok(Plan::Answered(answer))
+            let answered = call.answer_words(alloc, words, engine)?;
+            Ok(Plan::Answered(answered))
         }
     }
 }

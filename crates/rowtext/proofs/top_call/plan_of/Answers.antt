@@ -5,6 +5,6 @@ use Rattle.rowtext.proofs.top_call.plan_of.Goals as goal
 pub returns-in-Unknown-clause-cause : goal.returns-in-Unknown-clause-cause
 returns-in-Unknown-clause-cause g c = usage (sym c.in-Unknown.ensures) refl
 
-pub returns-in_ok-answer-in-WithoutInput-clause-cause : goal.returns-in_ok-answer-in-WithoutInput-clause-cause
-returns-in_ok-answer-in-WithoutInput-clause-cause g c =
-    of_words c.in_ok-answer-in-WithoutInput.answer (sym c.in-WithoutInput.ensures) refl (search rules)
+pub returns-in_ok-answered-in-WithoutInput-clause-cause : goal.returns-in_ok-answered-in-WithoutInput-clause-cause
+returns-in_ok-answered-in-WithoutInput-clause-cause g c =
+    of_words c.in_ok-answered-in-WithoutInput.answered (sym c.in-WithoutInput.ensures) refl (search rules)
