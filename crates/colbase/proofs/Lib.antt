@@ -1,0 +1,4 @@
+pub mod Lowest
+pub mod Masks
+pub mod Rows
+pub mod Scalars

@@ -10,5 +10,11 @@ pub mod Views
 pub mod Arrays
 pub mod ArrayCode
 pub mod ArrayOf
+pub mod ArrayFalls
 pub mod Parts
 pub mod Faults
+pub mod Natives
+pub mod Scalars
+pub mod Masks
+pub mod Layouts
+pub mod Cut

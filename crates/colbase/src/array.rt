@@ -4,24 +4,37 @@ ghost use Rattle.colbase.specs.ArrayOf.{array_of};
 ghost use Rattle.colbase.specs.LogicalTypeOf.{logical_type};
 
 use crate::ctx::ExecutionCtx;
-use crate::dtype::DType;
+use crate::dtype::{DType, ExtDType};
 use crate::fault::{Fault, Res};
+use crate::scalar::Scalar;
 use crate::validity::Validity;
 use crate::values::PrimitiveValues;
+use bitlane::BitBuffer;
 use shared::Shared;
 use std::marker::Model;
 
+mod boolean;
+mod constant;
+mod extension;
+mod masked;
 mod parts;
 mod primitive;
+mod rows;
 
+pub use boolean::BoolArray;
+pub use constant::ConstantArray;
+pub use extension::ExtensionArray;
+pub use masked::MaskedArray;
 pub use primitive::PrimitiveArray;
 
 /// A column as a shared layout, which contracts see as plain data by its layout.
+#[cycle(array)]
 #[derive(Drop)]
 pub struct ArrayRef {
     inner: Shared<Inner>,
 }
 
+#[cycle(array)]
 #[derive(Drop)]
 struct Inner {
     dtype: DType,
@@ -29,14 +42,19 @@ struct Inner {
     layout: Layout,
 }
 
+#[cycle(array)]
 #[derive(Drop)]
 enum Layout {
+    Constant(Scalar, usize),
+    Masked(ArrayRef, Validity),
+    Extension(ExtDType, ArrayRef),
     Primitive(PrimitiveValues, Validity),
+    Bool(BitBuffer, Validity),
 }
 
 impl Model for ArrayRef {
     ghost use Rattle.std.specs.Prelude.{◌≡◌};
-    ghost use Rattle.colbase.specs.Arrays.{Array, Sound, dtype, len};
+    ghost use Rattle.colbase.specs.Arrays.{Array, Sound, depth, dtype, len};
     ghost use Rattle.colbase.specs.ArrayCode.{coded_array};
     ghost use Rattle.colbase.specs.LogicalTypeOf.{logical_type};
 
@@ -49,6 +67,12 @@ impl Model for ArrayRef {
     ghost view = { λ a. array_of a.inner.layout };
 
     ghost invariant = { λ a. Sound (array_of a.inner.layout) × (logical_type a.inner.dtype ≡ dtype (array_of a.inner.layout)) × (a.inner.len ≡ len (array_of a.inner.layout)) };
+
+    ghost size = { depth };
+
+    ghost use Rattle.colbase.specs.ArrayFalls.{array_falls};
+
+    ghost size_decreases = { λ a h. array_falls a.inner.layout };
 }
 
 // The one place where an array is made.

@@ -1,6 +1,7 @@
 ghost use Rattle.std.specs.Prelude.{◌≡◌, ◌↔◌, IfOk, IfErr, IsTrue};
+ghost use Rattle.std.specs.Option.{option_copied};
 ghost use Rattle.colbase.specs.LogicalTypeOf.{logical_type, extension_type};
-ghost use Rattle.colbase.specs.LogicalType.{nullability_of, with_nullability, ignore_nullability};
+ghost use Rattle.colbase.specs.LogicalType.{extension, nullability_of, with_nullability, ignore_nullability};
 
 use crate::ctx::ExecutionCtx;
 use crate::fault::{Fault, Res};
@@ -167,6 +168,28 @@ impl DType {
 }
 
 impl ExtDType {
+    pub fn try_new(
+        name: &str,
+        unit: Option<TimeUnit>,
+        zone: Option<&str>,
+        storage: DType,
+        ctx: ExecutionCtx,
+    ) -> Res<ExtDType>
+        ensures made { IfOk result (λ e. extension_type e ≡ extension name.now unit (option_copied zone.entry) (logical_type storage)) }
+        ensures errors { IfErr result (λ e. e ≡ Fault.Memory) }
+    {
+        let zone = match zone {
+            None => None,
+            Some(text) => Some(Name::try_new(text, ctx)?),
+        };
+        Ok(ExtDType {
+            name: Name::try_new(name, ctx)?,
+            unit,
+            zone,
+            storage: Shared::new(ctx.alloc(), storage)?,
+        })
+    }
+
     /// Another owner of the same type.
     pub fn share(&self) -> ExtDType
         ensures { result ≡ self.now }

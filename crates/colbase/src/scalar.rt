@@ -7,7 +7,9 @@ use crate::buffer::Buffer;
 use crate::dtype::DType;
 use shared::{Items, Shared};
 
+mod lists;
 mod made;
+mod plain;
 
 /// A value that is not null.
 #[derive(Drop)]

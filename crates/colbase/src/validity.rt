@@ -1,10 +1,13 @@
-ghost use Rattle.std.specs.Prelude.{◌≡◌, ◌≤◌, ◌<◌, length, None, IfOk, IfErr};
+ghost use Rattle.std.specs.Prelude.{◌≡◌, ◌<◌, ℕ, length, None, IfOk, IfErr};
+ghost use Rattle.bitlane.specs.Bits.{bit};
 ghost use Rattle.colbase.specs.Faults.{length_check};
 ghost use Rattle.colbase.specs.Valid.{Covers, LengthsAgree, validity_and, validity_kind, validity_nullability, valid_at};
+ghost use Rattle.colbase.specs.Masks.{mask_bits, validity_mask};
 
 use crate::ctx::ExecutionCtx;
 use crate::dtype::Nullability;
 use crate::fault::{Fault, LayoutFault, Res};
+use crate::mask::Mask;
 use bitlane::BitBuffer;
 
 /// Which rows are not null.
@@ -71,6 +74,36 @@ impl Validity {
             Validity::NonNullable | Validity::AllValid => true,
             Validity::AllInvalid => false,
             Validity::Array(bits) => bits.value(index),
+        }
+    }
+
+    /// The rows of `len` that are not null. One pass over the values of an array, none of which is copied.
+    pub fn execute_mask(&self, len: usize) -> Mask
+        requires { Covers self.now len }
+        ensures mask { result ≡ validity_mask self.now len }
+        ensures rows { length (mask_bits result) ≡ len }
+        ensures tells { (i : ℕ) → i < len → bit (mask_bits result) i ≡ valid_at self.now i }
+    {
+        self.mask(len)
+    }
+
+    fn mask(&self, len: usize) -> Mask
+        requires { Covers self.now len }
+        ensures { result ≡ validity_mask self.now len }
+    {
+        match self {
+            Validity::NonNullable | Validity::AllValid => Mask::AllTrue(len),
+            Validity::AllInvalid => Mask::AllFalse(len),
+            Validity::Array(bits) => {
+                let trues = bits.true_count();
+                if trues == bits.len() {
+                    Mask::AllTrue(len)
+                } else if trues == 0 {
+                    Mask::AllFalse(len)
+                } else {
+                    Mask::Values(bits.share())
+                }
+            }
         }
     }
 

@@ -1,50 +1,61 @@
-// The parts of a layout, lent, and what they say of a row.
-ghost use Rattle.std.specs.Prelude.{◌≡◌, ◌<◌, ℕ, is_some, Some};
+// The parts of a layout, lent. Each call is Some exactly for the layouts that have the part.
+ghost use Rattle.std.specs.Prelude.{◌≡◌};
 ghost use Rattle.std.specs.Option.{option_copied};
-ghost use Rattle.colbase.specs.Arrays.{row, len};
-ghost use Rattle.colbase.specs.Parts.{values_of, own_validity};
-ghost use Rattle.colbase.specs.Valid.{valid_at, validity_kind};
+ghost use Rattle.colbase.specs.Parts.{bits_of, child_of, scalar_of, storage_of, values_of};
 
 use super::{ArrayRef, Layout};
-use crate::validity::{Validity, ValidityKind};
+use crate::scalar::Scalar;
 use crate::values::PrimitiveValues;
+use bitlane::BitBuffer;
 
 impl ArrayRef {
+    /// The scalar of a constant array.
+    pub fn as_constant(&self) -> Option<&Scalar>
+        ensures { option_copied result ≡ scalar_of self.now }
+    {
+        match &self.inner.get().layout {
+            Layout::Constant(scalar, _) => Some(scalar),
+            _ => None,
+        }
+    }
+
+    /// The child of a masked array.
+    pub fn masked_child(&self) -> Option<&ArrayRef>
+        ensures { option_copied result ≡ child_of self.now }
+    {
+        match &self.inner.get().layout {
+            Layout::Masked(child, _) => Some(child),
+            _ => None,
+        }
+    }
+
+    /// The storage of an extension array.
+    pub fn ext_storage(&self) -> Option<&ArrayRef>
+        ensures { option_copied result ≡ storage_of self.now }
+    {
+        match &self.inner.get().layout {
+            Layout::Extension(_, storage) => Some(storage),
+            _ => None,
+        }
+    }
+
+    /// The numbers of a primitive array.
     pub fn values(&self) -> Option<&PrimitiveValues>
         ensures { option_copied result ≡ values_of self.now }
     {
         match &self.inner.get().layout {
             Layout::Primitive(values, _) => Some(values),
+            _ => None,
         }
     }
 
-    /// Whether the row at `index` is not null.
-    pub fn is_valid(&self, index: usize) -> bool
-        requires { index < len self.now }
-        ensures { result ≡ is_some (row self.now index) }
-    {
-        let inner = self.inner.get();
-        match &inner.layout {
-            Layout::Primitive(_, v) => v.value(index, inner.len),
-        }
-    }
-
-    /// Which rows are not null, in an owner of its own.
-    pub fn validity(&self) -> Validity
-        ensures own { result ≡ own_validity self.now }
-        ensures tells { (i : ℕ) → i < len self.now → valid_at result i ≡ is_some (row self.now i) }
-    {
-        self.checks();
-        match &self.inner.get().layout {
-            Layout::Primitive(_, v) => v.share(),
-        }
-    }
-
-    pub fn validity_kind(&self) -> ValidityKind
-        ensures { result ≡ validity_kind (own_validity self.now) }
+    /// The truth values of a boolean array.
+    pub fn bits(&self) -> Option<&BitBuffer>
+        ensures { option_copied result ≡ bits_of self.now }
     {
         match &self.inner.get().layout {
-            Layout::Primitive(_, v) => v.kind(),
+            Layout::Bool(bits, _) => Some(bits),
+            _ => None,
         }
     }
 }

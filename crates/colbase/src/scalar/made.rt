@@ -4,11 +4,22 @@ ghost use Rattle.colbase.specs.LogicalTypeOf.{logical_type};
 ghost use Rattle.colbase.specs.LogicalType.{nullability_of};
 ghost use Rattle.colbase.specs.CellOf.{cell_of};
 ghost use Rattle.colbase.specs.Fits.{fits_type};
+ghost use Rattle.colbase.specs.Parts.{constant_validity};
 
 use super::{Scalar, ScalarValue};
 use crate::dtype::{DType, Nullability};
+use crate::validity::Validity;
 
 impl Scalar {
+    /// A value of this type, or a null where the type is nullable.
+    pub(crate) fn made(dtype: DType, value: Option<ScalarValue>) -> Scalar
+        requires { IsTrue (fits_type (option_map cell_of value) (logical_type dtype)) }
+        ensures dtype { result.dtype ≡ dtype }
+        ensures value { result.value ≡ value }
+    {
+        Scalar { dtype, value }
+    }
+
     /// The null of a nullable type.
     pub fn null(dtype: DType) -> Scalar
         requires { nullability_of (logical_type dtype) ≡ Nullability.Nullable }
@@ -34,6 +45,19 @@ impl Scalar {
         ensures { IsTrue result ↔ (self.now.value ≡ None) }
     {
         self.value.is_none()
+    }
+
+    /// The validity of a column that has this scalar in each row.
+    pub(crate) fn validity(&self) -> Validity
+        ensures { result ≡ constant_validity self.now.value (nullability_of (logical_type self.now.dtype)) }
+    {
+        match &self.value {
+            None => Validity::AllInvalid,
+            Some(_) => match self.dtype.nullability() {
+                Nullability::NonNullable => Validity::NonNullable,
+                Nullability::Nullable => Validity::AllValid,
+            },
+        }
     }
 
     /// Another owner of the same type and value.

@@ -1,0 +1,47 @@
+-- Which rows of an array are null.
+use Rattle.std.proofs.Common.{◌≡◌, ◌∙◌, ℕ, ◌<◌, Bool, true, false, Option, Some, None, refl, sym}
+use Rattle.std.specs.Prelude.{is_some, IsSome, not}
+use Rattle.colbase.specs.Cell.{Cell}
+use Rattle.colbase.specs.declared.validity.Validity.{Validity}
+use Rattle.colbase.specs.declared.scalar.ScalarValue.{ScalarValue}
+use Rattle.colbase.specs.declared.dtype.Nullability.{Nullability}
+use Rattle.colbase.specs.declared.dtype.Nullability.TheVariants.{NonNullable, Nullable}
+use Rattle.colbase.specs.CellOf.{cell_of}
+use Rattle.colbase.specs.Valid.{valid_at}
+use Rattle.colbase.specs.Faults.{lowest, null_at}
+use Rattle.colbase.specs.Parts.{own_validity, constant_validity}
+use Rattle.colbase.specs.LogicalType.{nullability_of}
+use Rattle.colbase.specs.LogicalTypeOf.{logical_type}
+use Rattle.colbase.specs.Arrays.{Array, constant, masked, extension, primitive, bool, varbin, varbinview, list, listview, fixed_size_list, row, stored, len, if_valid, Sound, StoredWhereValid}
+use Rattle.std.specs.Prelude.{option_map, cond}
+use Rattle.colbase.proofs.Lowest.{lowest-none}
+
+some_of : (o : Option Cell) → not (is_some o) ≡ false → IsSome o
+some_of None h = absurd (cc)
+some_of (Some x) h = refl
+
+pub present_rows : (c : Array) → lowest (null_at c) (len c) ≡ None → (i : ℕ) → i < len c → IsSome (row c i)
+present_rows c h i l = some_of (row c i) (lowest-none (null_at c) (len c) h i l)
+
+-- where something is stored, a row is null exactly where the validity says so
+chosen : (b : Bool) (c : Option Cell) → (b ≡ true → IsSome c) → b ≡ is_some (cond b c None)
+chosen false c h = refl
+chosen true None h = absurd (let e = h refl in cc)
+chosen true (Some x) h = refl
+
+constant_row : (v : Option ScalarValue) (n : Nullability) (i : ℕ) → valid_at (constant_validity v n) i ≡ is_some (option_map cell_of v)
+constant_row None n i = refl
+constant_row (Some x) NonNullable i = refl
+constant_row (Some x) Nullable i = refl
+
+pub valid_rows : (a : Array) → Sound a → (i : ℕ) → i < len a → valid_at (own_validity a) i ≡ is_some (row a i)
+valid_rows (constant x n) s i h = constant_row x.value (nullability_of (logical_type x.dtype)) i
+valid_rows (masked c v) s i h = chosen (valid_at v i) (row c i) (λ _. s.2 i h)
+valid_rows (extension e c) s i h = valid_rows c s.0 i h
+valid_rows (primitive values v) s i h = chosen (valid_at v i) _ (λ _. refl)
+valid_rows (bool bits v) s i h = chosen (valid_at v i) _ (λ _. refl)
+valid_rows (varbin offsets bs k v) s i h = chosen (valid_at v i) _ (λ _. refl)
+valid_rows (varbinview views buffers k v) s i h = chosen (valid_at v i) _ (s.2 i h)
+valid_rows (list c offsets v) s i h = chosen (valid_at v i) _ (λ _. refl)
+valid_rows (listview c offsets sizes v) s i h = chosen (valid_at v i) _ (s.3 i h)
+valid_rows (fixed_size_list c width n v) s i h = chosen (valid_at v i) _ (λ _. refl)

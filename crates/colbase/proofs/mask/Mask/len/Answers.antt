@@ -1,0 +1,13 @@
+use Rattle.std.proofs.Common.{◌∙◌, true, false, length, ap, sym}
+use Rattle.std.specs.Prelude.{count_by}
+use Rattle.bitlane.specs.Bits.{bit}
+use Rattle.bitlane.proofs.Tables.{length-tabulate, get_or-tabulate}
+use Rattle.colbase.specs.Masks.{mask_bits}
+use Rattle.colbase.proofs.Masks.{count_all, count_none}
+use Rattle.colbase.proofs.mask.Mask.len.Goals as goal
+
+pub returns-in-AllTrue : goal.returns-in-AllTrue
+returns-in-AllTrue c = sym (length-tabulate (λ i. true) c.in-AllTrue.n) ∙ ap (λ m. length (mask_bits m)) (sym c.in-AllTrue.is)
+
+pub returns-in-AllFalse : goal.returns-in-AllFalse
+returns-in-AllFalse c = sym (length-tabulate (λ i. false) c.in-AllFalse.n) ∙ ap (λ m. length (mask_bits m)) (sym c.in-AllFalse.is)
