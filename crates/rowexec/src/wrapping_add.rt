@@ -18,6 +18,7 @@ use std::alloc::{AllocError, Global};
 pub fn execute_wrapping_add(args: &ExecutionArgs, ctx: ExecutionCtx) -> Res<ArrayRef>
     requires { AreAddends args.now.columns args.now.row_count }
     ensures ok { IfOk result (λ array. column array ≡ wrapping_sums (map column args.now.columns) args.now.row_count) }
+    ensures layout { IfOk result (λ array. IsI64Array array) }
     ensures errors { IfErr result (λ fault. fault ≡ Memory) }
 {
     let (lhs, rhs) = (args.get(0), args.get(1));

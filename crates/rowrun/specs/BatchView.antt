@@ -1,0 +1,6 @@
+-- What a batch of the code states.
+use Rattle.rowrun.specs.Batch.{Batch}
+use Rattle.rowrun.specs.declared.batch.Batch as code
+
+abbrev pub batch_view : code.Batch → Batch
+batch_view b = record { call = b.call; row_count = b.args.row_count; columns = b.args.columns }

@@ -1,0 +1,102 @@
+// A batch from the bytes that state it.
+ghost use Rattle.std.specs.Prelude.{◌≡◌, IfOk, IsErrOf, IsSome, Some, None};
+ghost use Rattle.serde_json.specs.View.{view, items_view};
+ghost use Rattle.colbase.specs.Arrays.{len};
+ghost use Rattle.rowrun.specs.Batch.{call_in, columns_in, takes, batch_in, json_of, batch_of};
+ghost use Rattle.rowrun.specs.BatchView.{batch_view};
+ghost use Rattle.rowrun.specs.Fits.{Fits};
+ghost use Rattle.rowrun.specs.Reading.{Gives};
+
+use crate::batch::{Batch, Call};
+use crate::column::column_in;
+use crate::json::{JsonStop, Stop, array_in, has_keys, json_in, number_in, text_in};
+use colbase::{ArrayRef, ExecutionArgs, ExecutionCtx};
+use serde_json::Value;
+use std::alloc::Global;
+
+/// The most rows that a batch may have.
+const MAX_ROWS: u64 = 1_048_576;
+
+/// Why bytes state no batch.
+#[derive(Debug, Drop)]
+pub(crate) enum InputStop {
+    Memory,
+    Form,
+    Unbuilt,
+}
+
+/// A function by its name, with its options.
+#[tactic(auto, unfolding(crate::specs::Batch::call_in))]
+fn call_in(name: &str, options: &Value) -> Option<Call>
+    ensures { result ≡ call_in name.now (view options.now) }
+{
+    if name == "wrapping_add" && has_keys(options, 0) {
+        Some(Call::WrappingAdd)
+    } else {
+        None
+    }
+}
+
+/// The columns, in their order.
+fn columns_in(items: &[Value], ctx: ExecutionCtx) -> Result<Vec<ArrayRef>, Stop>
+    ensures { Gives (λ v. v.items) result (columns_in (items_view items.now)) }
+{
+    let mut columns = Vec::with_capacity(ctx.alloc(), items.len())?;
+    for item in items {
+        columns.push(column_in(item, ctx)?)?;
+    }
+    Ok(columns)
+}
+
+/// Whether the call takes so many columns of so many rows.
+fn takes(call: Call, rows: u64, columns: &[ArrayRef]) -> bool
+    ensures { result ≡ takes call rows columns.now }
+{
+    match call {
+        Call::WrappingAdd => {
+            columns.len() == 2 && columns[0].len() as u64 == rows && columns[1].len() as u64 == rows
+        }
+    }
+}
+
+#[tactic(auto, unfolding(crate::specs::Batch::batch_in))]
+fn batch_in(value: &Value, ctx: ExecutionCtx) -> Result<Batch, Stop>
+    ensures read { Gives batch_view result (batch_in (view value.now)) }
+    ensures fits { IfOk result (λ b. Fits b.call b.args.columns b.args.row_count) }
+{
+    let name = text_in(value, "call").ok_or(Stop::NoBatch)?;
+    let options = value.get("options").ok_or(Stop::NoBatch)?;
+    let call = call_in(name, options).ok_or(Stop::NoBatch)?;
+    let rows = number_in(value, "rows").ok_or(Stop::NoBatch)?;
+    let items = array_in(value, "columns").ok_or(Stop::NoBatch)?;
+    let columns = columns_in(items, ctx)?;
+    if has_keys(value, 4) && rows <= MAX_ROWS && takes(call, rows, &columns) {
+        Ok(Batch {
+            call,
+            args: ExecutionArgs::new(columns, rows as usize),
+        })
+    } else {
+        Err(Stop::NoBatch)
+    }
+}
+
+/// The batch that the bytes state.
+#[tactic(auto, unfolding(crate::specs::Batch::batch_of))]
+pub(crate) fn read_batch(bytes: &[u8], ctx: ExecutionCtx) -> Result<Batch, InputStop>
+    ensures ok { IfOk result (λ b. batch_of bytes.now ≡ Some (batch_view b)) }
+    ensures fits { IfOk result (λ b. Fits b.call b.args.columns b.args.row_count) }
+    ensures form { IsErrOf result InputStop.Form → json_of bytes.now ≡ None }
+    ensures unbuilt { IsErrOf result InputStop.Unbuilt → IsSome (json_of bytes.now) }
+    ensures no_batch { IsErrOf result InputStop.Unbuilt → batch_of bytes.now ≡ None }
+{
+    let value = match json_in(ctx.alloc(), bytes) {
+        Ok(value) => value,
+        Err(JsonStop::Memory) => return Err(InputStop::Memory),
+        Err(JsonStop::Form) => return Err(InputStop::Form),
+    };
+    match batch_in(&value, ctx) {
+        Ok(batch) => Ok(batch),
+        Err(Stop::Memory) => Err(InputStop::Memory),
+        Err(Stop::NoBatch) => Err(InputStop::Unbuilt),
+    }
+}

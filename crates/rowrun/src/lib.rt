@@ -1,0 +1,15 @@
+//! The call from bytes to bytes: it reads a batch, executes the called function, and prints the resulting column.
+#![tactic(auto)]
+
+mod batch;
+mod call;
+mod column;
+mod input;
+mod json;
+mod print;
+
+pub use call::run;
+pub use rowtext::{
+    MemorySink, MemorySource, NullSink, Sink, SinkFailed, Source, SourceFailed, StdSink, StdSource,
+    SteadySource,
+};
