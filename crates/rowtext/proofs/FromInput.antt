@@ -1,7 +1,7 @@
 -- Answers to an input, and answers to words that need none.
 use Rattle.std.proofs.Common.{◌≡◌, ℕ, List}
 use Rattle.rowtext.specs.declared.command.Command.{Command}
-use Rattle.rowtext.specs.declared.command.Command.TheVariants.{WithInput, WithoutInput}
+use Rattle.rowtext.specs.declared.command.Command.TheVariants.{WithoutInput}
 use Rattle.rowtext.specs.declared.plan.Answer.{Answer}
 use Rattle.rowtext.specs.declared.plan.Answer.TheVariants.{Fault, Printed}
 use Rattle.rowtext.specs.declared.plan.Plan.TheVariants.{Answered}

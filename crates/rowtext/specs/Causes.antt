@@ -12,7 +12,8 @@ abbrev pub input_command : Bool → Command
 input_command true = WithInput
 input_command false = Unknown
 
--- The plan has its cause, by what the words ask for, what the words alone and the bytes of an input lead to, and what the call did to its source.
+-- The plan has its cause. The words ask for a command, the words alone and the bytes of an input lead to answers,
+-- and the call did this to its source.
 pub data HasCause (command : Command) (words_lead : Answer → Type 0) (input_leads : List ℕ → Answer → Type 0) (source : Change) : Plan → Type 0 where
   usage : command ≡ Unknown → IsUntouched source → HasCause command words_lead input_leads source Usage
   unread : command ≡ WithInput → HasFailed source → TookFew source → HasCause command words_lead input_leads source Unread

@@ -91,12 +91,15 @@ impl Source for MemorySource {
     fn read(&mut self, buf: &mut [u8]) -> Result<usize, SourceFailed>
         // It fails exactly where its schedule says so, and else gives as many bytes as it can.
         ensures fails { is_err result ≡ fails_next (source_schedule self.old) }
-        ensures given { IfOk result (λ n. n ≡ min self.old.piece (min (length buf.old) (length (memory_left self.old)))) }
+        ensures given { IfOk result (λ n.
+            n ≡ min self.old.piece (min (length buf.old) (length (memory_left self.old)))) }
         ensures schedule { source_schedule self.new ≡ called (source_schedule self.old) }
         // What every source promises.
         ensures count { IfOk result (λ n. n ≤ length buf.new) }
-        ensures bytes { IfOk result (λ n. Takes (Some (memory_left self.old)) (take n buf.new) (Some (memory_left self.new))) }
-        ensures end { IfOk result (λ n. n ≡ 0 → 0 < length buf.new → IsAtEnd (Some (memory_left self.new))) }
+        ensures bytes { IfOk result (λ n.
+            Takes (Some (memory_left self.old)) (take n buf.new) (Some (memory_left self.new))) }
+        ensures end { IfOk result (λ n.
+            n ≡ 0 → 0 < length buf.new → IsAtEnd (Some (memory_left self.new))) }
         ensures kept { OnErr result (memory_left self.new ≡ memory_left self.old) }
         ensures counts { Counts self.old.faults self.new.faults }
         ensures cause { OnErr result (HasRisen self.old.faults self.new.faults) }
@@ -155,7 +158,8 @@ impl MemorySink {
         ensures held { IfOk result (λ s. ⟦<MemorySink as Sink>⟧.held s ≡ Some []) }
         ensures faults { IfOk result (λ s. ⟦<MemorySink as Sink>⟧.faults s ≡ 0) }
         ensures room { IfOk result (λ s. s.room ≡ room) }
-        ensures schedule { IfOk result (λ s. sink_schedule s ≡ record { piece = piece; fails = fails.items; calls = 0 }) }
+        ensures schedule { IfOk result (λ s.
+            sink_schedule s ≡ record { piece = piece; fails = fails.items; calls = 0 }) }
     {
         Ok(MemorySink {
             bytes: Vec::with_capacity(alloc, room)?,
@@ -184,8 +188,10 @@ impl Sink for MemorySink {
 
     fn write(&mut self, bytes: &[u8]) -> Result<usize, SinkFailed>
         // It fails exactly where its schedule says so or its room is full, and else takes as many bytes as it can.
-        ensures fails { is_err result ≡ (fails_next (sink_schedule self.old) || nat_lt 0 (length bytes.now) && (length (memory_held self.old) == self.old.room)) }
-        ensures taken { IfOk result (λ n. n ≡ min self.old.piece (min (length bytes.now) (self.old.room - length (memory_held self.old)))) }
+        ensures fails { is_err result ≡ (fails_next (sink_schedule self.old)
+            || nat_lt 0 (length bytes.now) && (length (memory_held self.old) == self.old.room)) }
+        ensures taken { IfOk result (λ n. n ≡ min self.old.piece
+            (min (length bytes.now) (self.old.room - length (memory_held self.old)))) }
         ensures schedule { sink_schedule self.new ≡ called (sink_schedule self.old) }
         ensures room { self.new.room ≡ self.old.room }
         // What every sink promises.

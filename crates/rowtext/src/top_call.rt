@@ -36,7 +36,8 @@ pub trait TopCall<E> {
         engine: &mut E,
         bytes: &[u8],
     ) -> Result<Answer, AllocError>
-        ensures { IfOk result (λ answer. input_leads self.now engine.old engine.new (map string_bytes words.now) bytes.now answer) };
+        ensures { IfOk result (λ answer.
+            input_leads self.now engine.old engine.new (map string_bytes words.now) bytes.now answer) };
 
     /// The answer to words that need no input. A call that knows no such words keeps this body.
     fn answer_words(
@@ -46,7 +47,8 @@ pub trait TopCall<E> {
         engine: &mut E,
     ) -> Result<Answer, AllocError>
         requires { command self.now (map string_bytes words.now) ≡ Command.WithoutInput }
-        ensures { IfOk result (λ answer. words_lead self.now engine.old engine.new (map string_bytes words.now) answer) }
+        ensures { IfOk result (λ answer.
+            words_lead self.now engine.old engine.new (map string_bytes words.now) answer) }
     {
         Err(AllocError)
     }
@@ -116,7 +118,8 @@ pub fn conduct<E, C: TopCall<E>, S: Source, K: Sink>(
     ensures ends { Ends (HasCause (C.command call.now (map string_bytes words.now))
         (C.words_lead call.now engine.old engine.new (map string_bytes words.now))
         (C.input_leads call.now engine.old engine.new (map string_bytes words.now))
-        (change S.left S.faults source.old source.new)) result (change K.held K.faults sink.old sink.new) }
+        (change S.left S.faults source.old source.new))
+        result (change K.held K.faults sink.old sink.new) }
     ensures source_faults { S.faults source.old ≤ S.faults source.new }
     ensures sink_faults { K.faults sink.old ≤ K.faults sink.new }
 {

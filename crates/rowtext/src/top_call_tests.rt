@@ -13,7 +13,8 @@ use std::test::Fail;
 struct Echo;
 
 impl TopCall<u64> for Echo {
-    ghost command = { λ _ words. if length words == 0 then Unknown else if length words == 1 then WithInput else WithoutInput };
+    ghost command = { λ _ words. if length words == 0 then Unknown else
+        if length words == 1 then WithInput else WithoutInput };
 
     ghost input_leads = { λ _ _ _ _ bytes answer. length bytes ≡ 0 → answer ≡ Form };
 
