@@ -4,3 +4,4 @@ pub mod Items
 pub mod JsonText
 pub mod Lines
 pub mod Marks
+pub mod OnLiterals

@@ -13,3 +13,8 @@ pub use rowtext::{
     MemorySink, MemorySource, NullSink, Sink, SinkFailed, Source, SourceFailed, StdSink, StdSource,
     SteadySource,
 };
+
+#[cfg(test)]
+mod tests;
+#[cfg(test)]
+mod worked;

@@ -1,0 +1,15 @@
+-- What is opened to compute the definitions of texts and batches on worked values.
+use Rattle.std.specs.Prelude.{⊤}
+use Rattle.std.specs.Fmt.{digits}
+use Rattle.std.specs.Char.{encode_utf8}
+use Rattle.std.specs.Str.{is_utf8, chars}
+use Rattle.serde_json.proofs.OnLiterals.{serde_json_on_literals}
+use Rattle.rowrun.specs.Batch.{has_keys, text_in, array_in, number_in, integer_type, i64_cell, primitive_in, column_in, call_in, batch_in, json_of, batch_of}
+
+unfoldable pub texts_on_literals : ⊤
+unfolding digits is_utf8 chars encode_utf8
+texts_on_literals = tt
+
+unfoldable pub batches_on_literals : ⊤
+unfolding is_utf8 chars serde_json_on_literals has_keys text_in array_in number_in integer_type i64_cell primitive_in column_in call_in batch_in json_of batch_of
+batches_on_literals = tt

@@ -1,0 +1,343 @@
+// Worked batches and their texts, and what a call does where its source or its sink fails.
+ghost use Rattle.std.specs.Prelude.{◌<◌, ◌≡◌, length, IfOk};
+
+use super::*;
+use std::alloc::{AllocError, Global};
+use std::test::Fail;
+
+/// Three rows with a null.
+const THREE: &str =
+    "{\"call\":\"wrapping_add\",\"options\":{},\"rows\":3,\"columns\":[{\"layout\":\"primitive\",\"type\":\"i64?\",\"values\":[1,null,3]},{\"layout\":\"primitive\",\"type\":\"i64\",\"values\":[10,20,30]}]}";
+
+/// Their sums.
+const THREE_SUMS: &str = "i64?\n11\nnull\n33\n";
+
+/// Two columns of no rows.
+const NONE: &str =
+    "{\"call\":\"wrapping_add\",\"options\":{},\"rows\":0,\"columns\":[{\"layout\":\"primitive\",\"type\":\"i64\",\"values\":[]},{\"layout\":\"primitive\",\"type\":\"i64\",\"values\":[]}]}";
+
+/// The greatest `i64` and 1.
+const WRAPS: &str =
+    "{\"call\":\"wrapping_add\",\"options\":{},\"rows\":1,\"columns\":[{\"layout\":\"primitive\",\"type\":\"i64\",\"values\":[9223372036854775807]},{\"layout\":\"primitive\",\"type\":\"i64\",\"values\":[1]}]}";
+
+/// How the source and the sink of a call behave.
+#[derive(Drop)]
+struct Outside<'a> {
+    source_piece: usize,
+    source_fails: &'a [u64],
+    sink_piece: usize,
+    sink_fails: &'a [u64],
+    ghost source_gives: { 0 < source_piece },
+    ghost sink_takes: { 0 < sink_piece },
+}
+
+/// Large pieces and no failure.
+fn steady() -> Outside<'static> {
+    Outside {
+        source_piece: 65_536,
+        source_fails: &[],
+        sink_piece: 65_536,
+        sink_fails: &[],
+    }
+}
+
+/// The status of a call, and what its sink holds then.
+fn ended(
+    alloc: Global,
+    words: &[&str],
+    input: Vec<u8>,
+    outside: &Outside<'_>,
+) -> Result<(u8, Vec<u8>), Fail> {
+    let mut given = Vec::new(alloc);
+    for word in words {
+        given.push(String::from_str(alloc, word)?)?;
+    }
+    let fails = outside.source_fails.to_vec(alloc)?;
+    let mut source = MemorySource::new(input, outside.source_piece, fails);
+    let fails = outside.sink_fails.to_vec(alloc)?;
+    let mut sink = MemorySink::new(alloc, 99, outside.sink_piece, fails)?;
+    let status = run(alloc, &given, &mut source, &mut sink);
+    Ok((status, sink.bytes().to_vec(alloc)?))
+}
+
+/// The same of the word `run`, with no failure.
+fn answered(alloc: Global, input: &[u8]) -> Result<(u8, Vec<u8>), Fail> {
+    ended(alloc, &["run"], input.to_vec(alloc)?, &steady())
+}
+
+#[test]
+fn worked_batches_have_their_texts(rt: HostRuntime) -> Result<(), Fail> {
+    let alloc = rt.alloc();
+    for (input, text) in [
+        (THREE, THREE_SUMS),
+        (NONE, "i64\n"),
+        (WRAPS, "i64\n-9223372036854775808\n"),
+    ] {
+        let (status, held) = answered(alloc, input.as_bytes())?;
+        assert_eq!(rt; status, 0);
+        assert_eq!(rt; held.as_slice(), text.as_bytes());
+    }
+    Ok(())
+}
+
+#[test]
+fn pieces_of_one_byte_make_no_difference(rt: HostRuntime) -> Result<(), Fail> {
+    let alloc = rt.alloc();
+    let outside = Outside {
+        source_piece: 1,
+        source_fails: &[],
+        sink_piece: 1,
+        sink_fails: &[],
+    };
+    let (status, held) = ended(alloc, &["run"], THREE.as_bytes().to_vec(alloc)?, &outside)?;
+    assert_eq!(rt; status, 0);
+    assert_eq!(rt; held.as_slice(), THREE_SUMS.as_bytes());
+    Ok(())
+}
+
+#[test]
+fn each_failing_read_ends_the_call(rt: HostRuntime) -> Result<(), Fail> {
+    let alloc = rt.alloc();
+    // Eleven pieces of at most 16 bytes, and the end.
+    for call in 1..=13 {
+        let outside = Outside {
+            source_piece: 16,
+            source_fails: &[call],
+            sink_piece: 99,
+            sink_fails: &[],
+        };
+        let (status, held) = ended(alloc, &["run"], THREE.as_bytes().to_vec(alloc)?, &outside)?;
+        let (wanted, text) = if call <= 12 {
+            (5, "read\n")
+        } else {
+            (0, THREE_SUMS)
+        };
+        assert_eq!(rt; status, wanted, "at call {call}");
+        assert_eq!(rt; held.as_slice(), text.as_bytes(), "at call {call}");
+    }
+    Ok(())
+}
+
+#[test]
+fn each_failing_write_leaves_a_prefix(rt: HostRuntime) -> Result<(), Fail> {
+    let alloc = rt.alloc();
+    for (call, wanted, text) in [
+        (1, 6, ""),
+        (2, 6, "i64?"),
+        (3, 6, "i64?\n11\n"),
+        (4, 6, "i64?\n11\nnull"),
+        (5, 0, THREE_SUMS),
+    ] {
+        let outside = Outside {
+            source_piece: 99,
+            source_fails: &[],
+            sink_piece: 4,
+            sink_fails: &[call],
+        };
+        let (status, held) = ended(alloc, &["run"], THREE.as_bytes().to_vec(alloc)?, &outside)?;
+        assert_eq!(rt; status, wanted, "at call {call}");
+        assert_eq!(rt; held.as_slice(), text.as_bytes(), "at call {call}");
+    }
+    Ok(())
+}
+
+#[test]
+fn other_words_are_refused(rt: HostRuntime) -> Result<(), Fail> {
+    let alloc = rt.alloc();
+    let cases: [&[&str]; 6] = [
+        &[],
+        &[""],
+        &["Run"],
+        &["runs"],
+        &["run", "run"],
+        &["gen", "3"],
+    ];
+    for words in cases {
+        let (status, held) = ended(alloc, words, THREE.as_bytes().to_vec(alloc)?, &steady())?;
+        assert_eq!(rt; status, 1);
+        assert_eq!(rt; held.as_slice(), b"usage\n".as_slice());
+    }
+    Ok(())
+}
+
+#[test]
+fn no_prefix_of_a_batch_is_json(rt: HostRuntime) -> Result<(), Fail> {
+    let alloc = rt.alloc();
+    let bytes = THREE.as_bytes();
+    for len in 0..bytes.len() {
+        let (status, held) = answered(alloc, &bytes[..len])?;
+        assert_eq!(rt; status, 2, "of {len} bytes");
+        assert_eq!(rt; held.as_slice(), b"form\n".as_slice());
+    }
+    Ok(())
+}
+
+#[test]
+fn other_bytes_are_no_json(rt: HostRuntime) -> Result<(), Fail> {
+    let alloc = rt.alloc();
+    let cases: [&[u8]; 6] = [
+        b"",
+        b"{} {}",
+        b"\xef\xbb\xbf{}",
+        b"\"\xff\"",
+        b"[1,]",
+        b"{'call':1}",
+    ];
+    for input in cases {
+        let (status, held) = answered(alloc, input)?;
+        assert_eq!(rt; status, 2);
+        assert_eq!(rt; held.as_slice(), b"form\n".as_slice());
+    }
+    Ok(())
+}
+
+/// A batch with this first column, a second one of three values, and a further member.
+fn with_column(alloc: Global, column: &str, more: &str) -> Result<String, AllocError> {
+    format!(in alloc;
+        "{{\"call\":\"wrapping_add\",\"options\":{{}},\"rows\":3,\"columns\":[{column},{{\"layout\":\"primitive\",\"type\":\"i64\",\"values\":[1,2,3]}}]{more}}}"
+    )
+}
+
+/// A batch of this call with these options and this number of rows, and two columns of three values.
+fn with_head(alloc: Global, call: &str, options: &str, rows: &str) -> Result<String, AllocError> {
+    let column = "{\"layout\":\"primitive\",\"type\":\"i64\",\"values\":[1,2,3]}";
+    format!(in alloc;
+        "{{\"call\":{call},\"options\":{options},\"rows\":{rows},\"columns\":[{column},{column}]}}"
+    )
+}
+
+#[test]
+fn other_columns_are_not_built(rt: HostRuntime) -> Result<(), Fail> {
+    let alloc = rt.alloc();
+    let (status, held) = answered(
+        alloc,
+        with_column(
+            alloc,
+            "{\"type\":\"i64\",\"values\":[1,2,3],\"layout\":\"primitive\"}",
+            "",
+        )?
+        .as_bytes(),
+    )?;
+    assert_eq!(rt; status, 0);
+    assert_eq!(rt; held.as_slice(), b"i64\n2\n4\n6\n".as_slice());
+    for column in [
+        "null",
+        "{}",
+        "{\"layout\":\"primitive\",\"type\":\"i64\",\"values\":[1,2]}",
+        "{\"layout\":\"primitive\",\"type\":\"i64\",\"values\":[1,2,3,4]}",
+        "{\"layout\":\"primitive\",\"type\":\"i64\",\"values\":[1,null,3]}",
+        "{\"layout\":\"primitive\",\"type\":\"i64\",\"values\":[1,2,3.0]}",
+        "{\"layout\":\"primitive\",\"type\":\"i64\",\"values\":[1,2,3e0]}",
+        "{\"layout\":\"primitive\",\"type\":\"i64\",\"values\":[1,2,-0]}",
+        "{\"layout\":\"primitive\",\"type\":\"i64\",\"values\":[1,2,true]}",
+        "{\"layout\":\"primitive\",\"type\":\"i64\",\"values\":[1,2,\"3\"]}",
+        "{\"layout\":\"primitive\",\"type\":\"i64\",\"values\":[1,2,9223372036854775808]}",
+        "{\"layout\":\"primitive\",\"type\":\"i64\",\"values\":[1,2,-9223372036854775809]}",
+        "{\"layout\":\"primitive\",\"type\":\"i64\",\"values\":{}}",
+        "{\"layout\":\"primitive\",\"type\":\"i64\"}",
+        "{\"layout\":\"primitive\",\"values\":[1,2,3]}",
+        "{\"type\":\"i64\",\"values\":[1,2,3]}",
+        "{\"layout\":\"primitive\",\"type\":\"i64?\",\"values\":[1,2,3],\"valid\":[true,true,true]}",
+        "{\"layout\":\"primitive\",\"type\":\"i64?\",\"values\":[1,2,3],\"valid\":\"none\"}",
+        "{\"layout\":\"primitive\",\"type\":\"i32\",\"values\":[1,2,3]}",
+        "{\"layout\":\"primitive\",\"type\":\"u64?\",\"values\":[1,2,3]}",
+        "{\"layout\":\"primitive\",\"type\":\"i64??\",\"values\":[1,2,3]}",
+        "{\"layout\":\"primitive\",\"type\":{\"list\":\"i64\",\"nullable\":false},\"values\":[1,2,3]}",
+        "{\"layout\":\"bool\",\"type\":\"bool\",\"values\":[true,true,false]}",
+        "{\"layout\":\"text\",\"type\":\"utf8\",\"values\":[\"a\",\"b\",\"c\"]}",
+        "{\"layout\":\"constant\",\"type\":\"i64\",\"value\":1,\"len\":3}",
+    ] {
+        let (status, held) = answered(alloc, with_column(alloc, column, "")?.as_bytes())?;
+        assert_eq!(rt; status, 8, "{column}");
+        assert_eq!(rt; held.as_slice(), b"unbuilt\n".as_slice(), "{column}");
+    }
+    Ok(())
+}
+
+#[test]
+fn other_batches_are_not_built(rt: HostRuntime) -> Result<(), Fail> {
+    let alloc = rt.alloc();
+    let column = "{\"layout\":\"primitive\",\"type\":\"i64\",\"values\":[1,2,3]}";
+    for (batch, wanted) in [
+        (with_head(alloc, "\"wrapping_add\"", "{}", "3")?, 0),
+        (with_head(alloc, "\"wrapping_add\"", "{\"a\":1}", "3")?, 8),
+        (with_head(alloc, "\"wrapping_add\"", "[]", "3")?, 8),
+        (with_head(alloc, "\"checked_add\"", "{}", "3")?, 8),
+        (with_head(alloc, "7", "{}", "3")?, 8),
+        (with_head(alloc, "\"wrapping_add\"", "{}", "3.0")?, 8),
+        (with_head(alloc, "\"wrapping_add\"", "{}", "-3")?, 8),
+        (with_head(alloc, "\"wrapping_add\"", "{}", "2")?, 8),
+        (with_column(alloc, column, ",\"more\":1")?, 8),
+        (
+            format!(in alloc;
+                "{{\"call\":\"wrapping_add\",\"options\":{{}},\"rows\":3,\"columns\":[{column}]}}"
+            )?,
+            8,
+        ),
+        (
+            format!(in alloc;
+                "{{\"call\":\"wrapping_add\",\"options\":{{}},\"rows\":3,\"columns\":[{column},{column},{column}]}}"
+            )?,
+            8,
+        ),
+        (
+            format!(in alloc;
+                "{{\"call\":\"wrapping_add\",\"options\":{{}},\"columns\":[{column},{column}]}}"
+            )?,
+            8,
+        ),
+        // The last value of a repeated key stays.
+        (
+            format!(in alloc;
+                "{{\"call\":7,\"call\":\"wrapping_add\",\"options\":{{}},\"rows\":3,\"columns\":[{column},{column}]}}"
+            )?,
+            0,
+        ),
+        (
+            format!(in alloc;
+                "{{\"call\":\"wrapping_add\",\"call\":7,\"options\":{{}},\"rows\":3,\"columns\":[{column},{column}]}}"
+            )?,
+            8,
+        ),
+        (format!(in alloc; "[]")?, 8),
+        (format!(in alloc; "null")?, 8),
+    ] {
+        let (status, held) = answered(alloc, batch.as_bytes())?;
+        assert_eq!(rt; status, wanted, "{batch}");
+        let text = if wanted == 0 {
+            "i64\n2\n4\n6\n"
+        } else {
+            "unbuilt\n"
+        };
+        assert_eq!(rt; held.as_slice(), text.as_bytes(), "{batch}");
+    }
+    Ok(())
+}
+
+/// So many blanks.
+fn blanks(alloc: Global, len: usize) -> Result<Vec<u8>, AllocError>
+    ensures { IfOk result (λ v. length v.items ≡ len) }
+{
+    vec![in alloc; b' '; len]
+}
+
+#[test]
+fn one_byte_decides_what_is_too_long(rt: HostRuntime) -> Result<(), Fail> {
+    let alloc = rt.alloc();
+    for (len, wanted, text) in [(67_108_864, 2, "form\n"), (67_108_865, 7, "long\n")] {
+        let (status, held) = ended(alloc, &["run"], blanks(alloc, len)?, &steady())?;
+        assert_eq!(rt; status, wanted, "of {len} bytes");
+        assert_eq!(rt; held.as_slice(), text.as_bytes(), "of {len} bytes");
+    }
+    Ok(())
+}
+
+#[test]
+fn a_steady_source_and_a_null_sink_serve(rt: HostRuntime) -> Result<(), Fail> {
+    let alloc = rt.alloc();
+    let mut words = Vec::new(alloc);
+    words.push(String::from_str(alloc, "run")?)?;
+    let mut source = SteadySource::new(THREE.as_bytes().to_vec(alloc)?);
+    assert_eq!(rt; run(alloc, &words, &mut source, &mut NullSink), 0);
+    Ok(())
+}
