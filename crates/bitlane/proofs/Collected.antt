@@ -1,8 +1,10 @@
 -- What calls of a closure at 0, 1 and so on gave, where the closure computes a function of the index and stays as it is.
-use Rattle.std.proofs.Common.{◌≡◌, ◌∙◌, ℕ, ◌+◌, ◌<◌, Bool, List, [], ◌∷◌, length, refl, ap, subst, arith, Result, Ok, Err, IfOk}
+use Rattle.std.proofs.Common.{◌≡◌, ◌∙◌, ℕ, ◌+◌, ◌<◌, Bool, List, [], ◌∷◌, length, refl, ap, sym, ◌++◌, take, subst, arith, Result, Ok, Err, IfOk}
+use Rattle.std.proofs.lemmas.Grind.{common_steps}
 use Rattle.bitlane.specs.Bits.{tabulate, Collects}
 use Rattle.bitlane.proofs.Tables.{tabulate-same}
 
+-- the values from i on
 Collects-tabulate : {F : Type 0} (step : F → ℕ → Bool → F → Type 0) (p : ℕ → Bool) (n : ℕ) (f : F)
     → ((i : ℕ) (b : Bool) (g : F) → i < n → step f i b g → (b ≡ p i) × (g ≡ f))
     → (i : ℕ) (g last : F) (bits : List Bool) → g ≡ f → i + length bits ≡ n → Collects step g i bits last → bits ≡ tabulate (λ k. p (i + k)) (length bits)
@@ -30,3 +32,12 @@ pub collected : {E F : Type 0} (step : F → ℕ → Bool → F → Type 0) (p :
     → (result : Result (List Bool) E) → IfOk result (λ b. length b ≡ n) → IfOk result (λ b. (last : F) × Collects step f 0 b last) → IfOk result (λ b. b ≡ tabulate p n)
 collected step p n f pure (Ok b) l c = collected-tabulate step p n f pure b l c
 collected step p n f pure (Err e) l c = tt
+
+-- what holds of a list holds of the Ok that is that list
+pub IfOk-is : {E X : Type 0} (P : X → Type 0) (result : Result X E) (x : X) → IfOk result (λ y. y ≡ x) → P x → IfOk result P
+IfOk-is P (Ok y) x e p = subst P (sym e) p
+IfOk-is P (Err e) x h p = tt
+
+-- the first n of two lists, where the first list has n elements
+pub take_front : {X : Type 0} (xs ys : List X) (n : ℕ) → length xs ≡ n → take n (xs ++ ys) ≡ xs
+take_front xs ys n e = grind (arith, common_steps)

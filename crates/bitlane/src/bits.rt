@@ -8,7 +8,8 @@ use std::marker::Model;
 
 /// A shared list of truth values, which contracts see as that list.
 ///
-/// `share` and `slice` take no memory and copy nothing. Every other buffer is made in one pass over new memory.
+/// `share` and `slice` take no memory and copy nothing. Every other buffer is made in new memory, which is taken
+/// once and at its full length; a loop then writes each value at its index.
 #[derive(Drop)]
 pub struct BitBuffer {
     bits: SharedSlice<bool>,
@@ -23,20 +24,19 @@ impl Model for BitBuffer {
 }
 
 impl BitBuffer {
-    /// The values of `f` at the indices below `len`. It calls `f` once for each index, in rising order.
+    /// The values of `f` at the indices below `len`. It calls `f` once for each index, in rising order, and asks
+    /// only that these calls may be made, so `f` may read a slice of `len` elements at its index.
     pub fn collect_bool_in<F: FnMut(usize) -> bool>(
         alloc: Global,
         len: usize,
-        mut f: F,
+        f: F,
     ) -> Result<BitBuffer, AllocError>
         requires { CallableFrom F.pre F.step f 0 len }
         ensures len { IfOk result (λ b. length b ≡ len) }
         ensures calls { IfOk result (λ b. (last : F) × Collects F.step f 0 b last) }
     {
-        let mut bits = Vec::with_capacity(alloc, len)?;
-        for i in 0..len {
-            bits.push(f(i))?;
-        }
+        let mut bits = Vec::from_elem(alloc, false, len)?;
+        fill(bits.as_mut_slice(), f);
         BitBuffer::from_vec(alloc, bits)
     }
 
@@ -84,6 +84,7 @@ impl BitBuffer {
         }
     }
 
+    /// How many values there are.
     pub fn len(&self) -> usize
         ensures { result ≡ length self.now }
     {
@@ -139,5 +140,15 @@ impl BitBuffer {
         ensures { result ≡ true_indices self.now }
     {
         SetIndices::new(self.bits.as_slice())
+    }
+}
+
+// Puts the values of `f` in the places of a slice. A write by index, unlike a push, lets the loop be a vector loop.
+fn fill<F: FnMut(usize) -> bool>(places: &mut [bool], mut f: F)
+    requires { CallableFrom F.pre F.step f 0 (length places.old) }
+    ensures { (last : F) × Collects F.step f 0 places.new last }
+{
+    for i in 0..places.len() {
+        places[i] = f(i);
     }
 }

@@ -28,21 +28,32 @@ impl<'a> IndexedSource for Numbers<'a> {
 #[test]
 fn even_indices_of_sixty_five(rt: HostRuntime) -> Result<(), Fail> {
     let even = BitBuffer::collect_bool_in(rt.alloc(), 65, |i| i % 2 == 0)?;
+    assert_eq!(rt; (even.len(), even.true_count()), (65, 33));
     let again = BitBuffer::collect_bool_multiversioned_in(rt.alloc(), 65, |i| i % 2 == 0)?;
-    for bits in [&even, &again] {
-        assert_eq!(rt; bits.len(), 65);
-        assert_eq!(rt; bits.true_count(), 33);
-        assert_eq!(rt; bits.set_indices().last(), Some(64));
-    }
+    assert_eq!(rt; (again.len(), again.true_count()), (65, 33));
+    Ok(())
+}
+
+#[test]
+fn odd_indices_of_sixty_five(rt: HostRuntime) -> Result<(), Fail> {
+    let even = BitBuffer::collect_bool_in(rt.alloc(), 65, |i| i % 2 == 0)?;
     let odd = even.not(rt.alloc())?;
     assert_eq!(rt; odd.true_count(), 32);
+    assert_eq!(rt; odd.len(), even.len());
     assert_eq!(rt; odd.and(rt.alloc(), &even)?.true_count(), 0);
+    Ok(())
+}
+
+#[test]
+fn three_of_sixty_five(rt: HostRuntime) -> Result<(), Fail> {
+    let even = BitBuffer::collect_bool_in(rt.alloc(), 65, |i| i % 2 == 0)?;
     let part = even.share().slice(1, 4);
     drop(even);
     assert_eq!(rt; part.len(), 3);
-    for (index, want) in [false, true, false].into_iter().enumerate() {
-        assert_eq!(rt; part.value(index), want, "at {index}");
-    }
+    assert_eq!(rt;
+        (part.value(0), part.value(1), part.value(2)),
+        (false, true, false)
+    );
     Ok(())
 }
 
@@ -88,22 +99,44 @@ fn evidence_joins(rt: HostRuntime) {
 }
 
 #[test]
-fn maps_write_each_answer(rt: HostRuntime) {
+fn map_writes_each_answer(rt: HostRuntime) {
     let source = Numbers {
         values: &[7, 200, 9, 255],
     };
     let mut doubled = [0u16; 4];
     map_into(&source, &mut doubled, |x| 2 * u16::from(x));
     assert_eq!(rt; doubled, [14, 400, 18, 510]);
+}
+
+#[test]
+fn map_joins_whether_a_row_failed(rt: HostRuntime) {
+    let source = Numbers {
+        values: &[7, 200, 9, 255],
+    };
     let mut sums = [0u8; 4];
     let overflows = map_checked_into(&source, &mut sums, |x| x.overflowing_add(50));
     assert_eq!(rt; sums, [57, 250, 59, 49]);
     assert!(rt; overflows);
-    let flags = map_checked_into(&source, &mut sums, |x| (x, if x < 10 { 1u8 } else { 2 }));
+}
+
+#[test]
+fn map_joins_flags(rt: HostRuntime) {
+    let source = Numbers {
+        values: &[7, 200, 9, 255],
+    };
+    let mut same = [0u8; 4];
+    let flags = map_checked_into(&source, &mut same, |x| (x, if x < 10 { 1u8 } else { 2 }));
     assert_eq!(rt; flags, 3);
-    let fits = map_checked_into(&source, &mut sums, |x| x.overflowing_add(0));
-    assert!(rt; !fits);
-    let nothing = map_checked_into(&source, &mut sums, |x| (x / 2, NoFailure));
+    assert_eq!(rt; same, [7, 200, 9, 255]);
+}
+
+#[test]
+fn map_joins_nothing(rt: HostRuntime) {
+    let source = Numbers {
+        values: &[7, 200, 9, 255],
+    };
+    let mut halves = [0u8; 4];
+    let nothing = map_checked_into(&source, &mut halves, |x| (x / 2, NoFailure));
     assert_eq!(rt; nothing, NoFailure);
-    assert_eq!(rt; sums, [3, 100, 4, 127]);
+    assert_eq!(rt; halves, [3, 100, 4, 127]);
 }

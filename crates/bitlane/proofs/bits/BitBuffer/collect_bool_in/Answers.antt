@@ -1,17 +1,16 @@
-use Rattle.std.proofs.Common.{arith, of_calls, refl, ◌+◌}
-use Rattle.std.proofs.lemmas.Grind.{common_steps}
-use Rattle.std.proofs.iter.Next.{served, Serves-on}
-use Rattle.bitlane.proofs.Tables.{Collects-more}
+use Rattle.std.proofs.Common.{◌≡◌, ◌∙◌, length, subst, sym, arith, List, Bool, ℕ}
+use Rattle.bitlane.specs.Bits.{CallableFrom, Collects}
+use Rattle.bitlane.proofs.Collected.{IfOk-is, take_front}
 use Rattle.bitlane.proofs.bits.BitBuffer.collect_bool_in.Goals as goal
 
-pub f-requires : goal.f-requires
-f-requires g c = served c.loop-i.invariant.callable c.loop-i.i (record { start = c.loop-i.i + 1; end = c.args.len }) (refl, (omega arith, refl, refl))
+pub fill-requires : goal.fill-requires
+fill-requires g c =
+    let same : length c.as_mut_slice.result.now ≡ c.args.len = c.as_mut_slice.ensures.len ∙ c.in_ok-bits.ensures.len in
+    let Below : ℕ → Type 0 = λ n. CallableFrom (goal.F-pre g) (goal.F-step g) c.args.f 0 n in
+    subst Below (sym same) c.requires
 
-pub loop-i-preserved : goal.loop-i-preserved
-loop-i-preserved g c =
-    let met : goal.F-step g c.loop-i.f c.loop-i.i c.f.result c.f.new.self = search of_calls in
-    record {
-      callable = Serves-on c.loop-i.invariant.callable c.loop-i.i (record { start = c.loop-i.i + 1; end = c.args.len }) (refl, (omega arith, refl, refl)) _ (_, met);
-      many = grind (arith, common_steps);
-      calls = rw c.in_ok-push.ensures.items (Collects-more _ _ _ _ _ c.loop-i.invariant.calls c.loop-i.i (omega arith) _ _ met);
-    }
+pub returns-clause-calls : goal.returns-clause-calls
+returns-clause-calls g c =
+    let Given : List Bool → Type 0 = λ b. (x : _) × Collects (goal.F-step g) c.args.f 0 b x in
+    let long : length c.fill.new.places ≡ c.in_ok-bits.bits.len = omega (arith, c.as_mut_slice.ensures.len) in
+    IfOk-is Given c.from_vec.result _ c.from_vec.ensures (subst Given (sym (take_front c.fill.new.places _ _ long)) c.fill.ensures)
