@@ -18,3 +18,4 @@ pub mod Scalars
 pub mod Masks
 pub mod Layouts
 pub mod Cut
+pub mod Hides

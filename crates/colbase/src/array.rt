@@ -16,10 +16,13 @@ use std::marker::Model;
 mod boolean;
 mod constant;
 mod extension;
+mod mask;
 mod masked;
 mod parts;
 mod primitive;
 mod rows;
+mod slice;
+mod value;
 
 pub use boolean::BoolArray;
 pub use constant::ConstantArray;

@@ -202,8 +202,9 @@ impl ExtDType {
         }
     }
 
+    /// The type with its storage made nullable or not.
     #[cycle(with)]
-    fn with_nullability(&self, to: Nullability, ctx: ExecutionCtx) -> Res<ExtDType>
+    pub fn with_nullability(&self, to: Nullability, ctx: ExecutionCtx) -> Res<ExtDType>
         ensures changed { IfOk result (λ e. extension_type e ≡ with_nullability (extension_type self.now) to) }
         ensures errors { IfErr result (λ e. e ≡ Fault.Memory) }
     {

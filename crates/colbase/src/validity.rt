@@ -1,5 +1,6 @@
-ghost use Rattle.std.specs.Prelude.{◌≡◌, ◌<◌, ℕ, length, None, IfOk, IfErr};
+ghost use Rattle.std.specs.Prelude.{◌≡◌, ◌<◌, ◌≤◌, ℕ, length, None, IfOk, IfErr};
 ghost use Rattle.bitlane.specs.Bits.{bit};
+ghost use Rattle.colbase.specs.Cut.{cut_validity};
 ghost use Rattle.colbase.specs.Faults.{length_check};
 ghost use Rattle.colbase.specs.Valid.{Covers, LengthsAgree, validity_and, validity_kind, validity_nullability, valid_at};
 ghost use Rattle.colbase.specs.Masks.{mask_bits, validity_mask};
@@ -122,6 +123,21 @@ impl Validity {
             (_, Validity::Array(b)) => Ok(Validity::Array(b.share())),
             (Validity::NonNullable, Validity::NonNullable) => Ok(Validity::NonNullable),
             _ => Ok(Validity::AllValid),
+        }
+    }
+
+    /// The validity of the rows from `start` to below `end`, of `len` rows. Copies no value.
+    pub fn slice(&self, start: usize, end: usize, len: usize) -> Validity
+        requires covers { Covers self.now len }
+        requires order { start ≤ end }
+        requires within { end ≤ len }
+        ensures { result ≡ cut_validity self.now start end }
+    {
+        match self {
+            Validity::NonNullable => Validity::NonNullable,
+            Validity::AllValid => Validity::AllValid,
+            Validity::AllInvalid => Validity::AllInvalid,
+            Validity::Array(bits) => Validity::Array(bits.slice(start, end)),
         }
     }
 

@@ -1,4 +1,6 @@
-ghost use Rattle.std.specs.Prelude.{◌≡◌, ◌<◌};
+ghost use Rattle.std.specs.Prelude.{◌≡◌, ◌<◌, ◌≤◌, IsTrue};
+ghost use Rattle.colbase.specs.Cut.{cut_values};
+ghost use Rattle.colbase.specs.Fits.{in_range};
 ghost use Rattle.colbase.specs.Values.{count, number_at, ptype_of};
 
 use crate::buffer::Buffer;
@@ -51,7 +53,8 @@ impl PrimitiveValues {
     /// The number at `index`.
     pub fn value(&self, index: usize) -> i128
         requires { index < count self.now }
-        ensures { result ≡ number_at self.now index }
+        ensures number { result ≡ number_at self.now index }
+        ensures range { IsTrue (in_range (ptype_of self.now) result) }
     {
         match self {
             PrimitiveValues::I8(b) => b.as_slice()[index] as i128,
@@ -62,6 +65,38 @@ impl PrimitiveValues {
             PrimitiveValues::U16(b) => b.as_slice()[index] as i128,
             PrimitiveValues::U32(b) => b.as_slice()[index] as i128,
             PrimitiveValues::U64(b) => b.as_slice()[index] as i128,
+        }
+    }
+    /// The numbers from `start` to below `end`, none of which is copied.
+    pub fn slice(&self, start: usize, end: usize) -> PrimitiveValues
+        requires order { start ≤ end }
+        requires within { end ≤ count self.now }
+        ensures { result ≡ cut_values self.now start end }
+    {
+        match self {
+            PrimitiveValues::I8(b) => PrimitiveValues::I8(b.slice(start, end)),
+            PrimitiveValues::I16(b) => PrimitiveValues::I16(b.slice(start, end)),
+            PrimitiveValues::I32(b) => PrimitiveValues::I32(b.slice(start, end)),
+            PrimitiveValues::I64(b) => PrimitiveValues::I64(b.slice(start, end)),
+            PrimitiveValues::U8(b) => PrimitiveValues::U8(b.slice(start, end)),
+            PrimitiveValues::U16(b) => PrimitiveValues::U16(b.slice(start, end)),
+            PrimitiveValues::U32(b) => PrimitiveValues::U32(b.slice(start, end)),
+            PrimitiveValues::U64(b) => PrimitiveValues::U64(b.slice(start, end)),
+        }
+    }
+    /// Another owner of the same numbers.
+    pub fn share(&self) -> PrimitiveValues
+        ensures { result ≡ self.now }
+    {
+        match self {
+            PrimitiveValues::I8(b) => PrimitiveValues::I8(b.share()),
+            PrimitiveValues::I16(b) => PrimitiveValues::I16(b.share()),
+            PrimitiveValues::I32(b) => PrimitiveValues::I32(b.share()),
+            PrimitiveValues::I64(b) => PrimitiveValues::I64(b.share()),
+            PrimitiveValues::U8(b) => PrimitiveValues::U8(b.share()),
+            PrimitiveValues::U16(b) => PrimitiveValues::U16(b.share()),
+            PrimitiveValues::U32(b) => PrimitiveValues::U32(b.share()),
+            PrimitiveValues::U64(b) => PrimitiveValues::U64(b.share()),
         }
     }
 }

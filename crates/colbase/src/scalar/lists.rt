@@ -51,7 +51,7 @@ impl Scalar {
     }
 
     // The optional value, in an owner of its own.
-    fn share_value(&self) -> Option<ScalarValue>
+    pub(crate) fn share_value(&self) -> Option<ScalarValue>
         ensures { result ≡ self.now.value }
     {
         match &self.value {
