@@ -1,6 +1,6 @@
 -- What cutting an array does to its rows, its payload and its type.
-use Rattle.std.proofs.Common.{◌≡◌, ◌∙◌, ℕ, ◌+◌, ◌-◌, ◌*◌, ◌<◌, ◌≤◌, Bool, true, false, List, [], length, drop, get_or, Option, Some, None, refl, ap, sym, subst, arith, slice_range, add_assoc, inl, inr}
-use Rattle.std.specs.Prelude.{IsSome, is_some, slice_index, pos, option_map}
+use Rattle.std.proofs.Common.{◌≡◌, ◌∙◌, ℕ, ◌+◌, ◌-◌, ◌*◌, ◌<◌, ◌≤◌, false, List, [], length, drop, get_or, Option, Some, None, refl, ap, sym, subst, arith, slice_range, add_assoc, inl, inr}
+use Rattle.std.specs.Prelude.{is_some, slice_index, pos, option_map}
 use Rattle.std.proofs.lemmas.List.{ext_get_or, get_or-take, get_or-drop, length-take, length-drop}
 use Rattle.bitlane.specs.Bits.{tabulate}
 use Rattle.bitlane.proofs.Tables.{length-tabulate, get_or-tabulate, tabulate-same}
@@ -15,8 +15,8 @@ use Rattle.colbase.specs.declared.binary.BinaryView.{BinaryView}
 use Rattle.colbase.specs.declared.binary.BinaryView.TheVariants.{Inline}
 use Rattle.colbase.specs.Valid.{valid_at, validity_nullability, Covers}
 use Rattle.colbase.specs.Values.{number_at, ptype_of}
-use Rattle.colbase.specs.Views.{view_at, view_bytes, EachIsShort, IsShort}
-use Rattle.colbase.specs.Arrays.{Array, constant, masked, extension, primitive, bool, varbin, varbinview, list, listview, fixed_size_list, len, dtype, masked_type, row, stored, rows, payload, constant_cell, MustRead, if_valid, between, list_between, list_within, Sound, OffsetsFit, StoredWhereValid}
+use Rattle.colbase.specs.Views.{view_at, view_bytes, EachIsShort}
+use Rattle.colbase.specs.Arrays.{Array, constant, masked, extension, primitive, bool, varbin, varbinview, list, listview, fixed_size_list, len, dtype, masked_type, row, stored, rows, payload, constant_cell, MustRead, if_valid, list_between, list_within, Sound, OffsetsFit, StoredWhereValid}
 use Rattle.colbase.specs.Cut.{cut, cut_validity, cut_values}
 
 get_or-slice_range : {X : Type 0} (xs : List X) (a b i : ℕ) (d : X) → i < b - a → get_or (slice_range xs a b) i d ≡ get_or xs (a + i) d
@@ -104,7 +104,7 @@ cells_cut (listview c o z w) a b i h =
     let s = within_same (λ j. row c j) (len c) _ _ _ _ (get_or-slice_range o a b i 0 h) (get_or-slice_range z a b i 0 h) in record { same_row = if_valid_cut w a b i h _ _ s; same_stored = s }
 cells_cut (fixed_size_list c width n w) a b i h =
     let s = width_rows (λ j. row (cut c (a * width) (b * width)) j) (λ j. row c j) a i width
-        (λ t k. (cells_cut c (a * width) (b * width) (i * width + t) (element_within a b width i t h k)).same_row ∙ ap (λ j. row c j) (shift a i width t)) in record { same_row = if_valid_cut w a b i h _ _ s; same_stored = s }
+    (λ t k. (cells_cut c (a * width) (b * width) (i * width + t) (element_within a b width i t h k)).same_row ∙ ap (λ j. row c j) (shift a i width t)) in record { same_row = if_valid_cut w a b i h _ _ s; same_stored = s }
 
 pub row_cut : (c : Array) (a b i : ℕ) → i < b - a → row (cut c a b) i ≡ row c (a + i)
 row_cut c a b i h = (cells_cut c a b i h).same_row
@@ -241,11 +241,12 @@ sound_cut (list c o w) a b s h k =
     let l = s.1.some in
     (s.0, offsets_cut o (len c) a b s.1 h (omega arith), rw (len_cut (list c o w) a b h k) (covers_cut w (length o - 1) a b s.2 h k))
 sound_cut (listview c o z w) a b s h k =
-    let l : b ≤ length z = omega (arith, s.1) in
-    (s.0,
-    length-slice_range z a b h l ∙ sym (length-slice_range o a b h k),
-    rw (length-slice_range o a b h k) (covers_cut w _ a b s.2 h k),
-    stored_where_cut w (length o) _ a b _ _ (length-slice_range o a b h k) k (stored_cut (listview c o z w) a b) s.3)
+    let l : b ≤ length z = omega (arith, s.1) in (
+      s.0,
+      length-slice_range z a b h l ∙ sym (length-slice_range o a b h k),
+      rw (length-slice_range o a b h k) (covers_cut w _ a b s.2 h k),
+      stored_where_cut w (length o) _ a b _ _ (length-slice_range o a b h k) k (stored_cut (listview c o z w) a b) s.3,
+    )
 sound_cut (fixed_size_list c width n w) a b s h k =
     let l : b * width ≤ len c = omega (arith, width_below b n width k, s.1) in
     let m : a * width ≤ b * width = width_below a b width h in

@@ -1,7 +1,7 @@
 -- What one more mask does to the rows of an array.
 use Rattle.std.proofs.Common.{◌≡◌, ◌∙◌, ℕ, ◌<◌, Bool, true, false, ◌&&◌, List, length, Option, None, refl, ap, sym, subst, arith}
-use Rattle.std.specs.Prelude.{IsTrue, cond, option_map}
-use Rattle.bitlane.specs.Bits.{bit, both, tabulate}
+use Rattle.std.specs.Prelude.{cond, option_map}
+use Rattle.bitlane.specs.Bits.{bit, tabulate}
 use Rattle.bitlane.proofs.Tables.{length-tabulate, get_or-tabulate, tabulate-same}
 use Rattle.colbase.specs.declared.dtype.Nullability.{Nullability}
 use Rattle.colbase.specs.declared.dtype.Nullability.TheVariants.{Nullable, NonNullable}
@@ -16,9 +16,9 @@ use Rattle.colbase.specs.CellOf.{cell_of}
 use Rattle.colbase.specs.Fits.{is_nullable, fits_type}
 use Rattle.colbase.specs.LogicalType as types
 use Rattle.colbase.specs.LogicalTypeOf.{extension_type, logical_type}
-use Rattle.colbase.specs.Valid.{Covers, valid_at, validity_and, validity_nullability}
+use Rattle.colbase.specs.Valid.{Covers, validity_and, validity_nullability}
 use Rattle.colbase.specs.Values.{count, ptype_of}
-use Rattle.colbase.specs.Arrays.{Array, constant, masked, extension, primitive, bool, dtype, len, masked_type, payload, row, rows, stored, if_valid, Sound}
+use Rattle.colbase.specs.Arrays.{Array, constant, masked, extension, primitive, bool, dtype, len, masked_type, payload, row, rows, stored, if_valid}
 use Rattle.colbase.specs.Hides.{Hides, Retypes, shown_row}
 
 pub covers_and : (w : Validity) (bits : List Bool) (n : ℕ) → Covers w n → length bits ≡ n → Covers (validity_and w (v.Array bits)) n

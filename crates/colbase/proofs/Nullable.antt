@@ -1,5 +1,5 @@
 -- A value of a type is a value of the type made nullable.
-use Rattle.std.proofs.Common.{◌≡◌, ◌∙◌, ℕ, Bool, true, false, Option, Some, None, refl}
+use Rattle.std.proofs.Common.{◌≡◌, ◌∙◌, ℕ, true, false, Option, Some, None, refl}
 use Rattle.std.specs.Prelude.{IsTrue}
 use Rattle.colbase.specs.declared.dtype.Nullability.{Nullability}
 use Rattle.colbase.specs.declared.dtype.Nullability.TheVariants.{Nullable}

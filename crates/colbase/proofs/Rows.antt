@@ -1,8 +1,7 @@
 -- Which rows of an array are null.
-use Rattle.std.proofs.Common.{◌≡◌, ◌∙◌, ℕ, ◌<◌, Bool, true, false, Option, Some, None, refl, sym}
+use Rattle.std.proofs.Common.{◌≡◌, ℕ, ◌<◌, Bool, true, false, Option, Some, None, refl}
 use Rattle.std.specs.Prelude.{is_some, IsSome, not}
 use Rattle.colbase.specs.Cell.{Cell}
-use Rattle.colbase.specs.declared.validity.Validity.{Validity}
 use Rattle.colbase.specs.declared.scalar.ScalarValue.{ScalarValue}
 use Rattle.colbase.specs.declared.dtype.Nullability.{Nullability}
 use Rattle.colbase.specs.declared.dtype.Nullability.TheVariants.{NonNullable, Nullable}
@@ -12,7 +11,7 @@ use Rattle.colbase.specs.Faults.{lowest, null_at}
 use Rattle.colbase.specs.Parts.{own_validity, constant_validity}
 use Rattle.colbase.specs.LogicalType.{nullability_of}
 use Rattle.colbase.specs.LogicalTypeOf.{logical_type}
-use Rattle.colbase.specs.Arrays.{Array, constant, masked, extension, primitive, bool, varbin, varbinview, list, listview, fixed_size_list, row, stored, len, if_valid, Sound, StoredWhereValid}
+use Rattle.colbase.specs.Arrays.{Array, constant, masked, extension, primitive, bool, varbin, varbinview, list, listview, fixed_size_list, row, len, Sound}
 use Rattle.std.specs.Prelude.{option_map, cond}
 use Rattle.colbase.proofs.Lowest.{lowest-none}
 

@@ -1,5 +1,5 @@
 -- What the eight integer types say of the values that they store and lend.
-use Rattle.std.proofs.Common.{◌≡◌, ◌∙◌, ℕ, List, [], ◌∷◌, Option, Some, None, refl, ap, zero, suc}
+use Rattle.std.proofs.Common.{◌≡◌, ℕ, List, [], ◌∷◌, Option, Some, refl, ap, zero, suc}
 use Rattle.std.specs.Prelude.{ℤ, pos, IsSome, slice_get, slice_index_or}
 use Rattle.colbase.specs.declared.values.PrimitiveValues.{PrimitiveValues}
 use Rattle.colbase.specs.declared.values.PrimitiveValues.TheVariants.{I8, I16, I32, I64, U8, U16, U32, U64}

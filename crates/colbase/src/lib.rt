@@ -20,9 +20,7 @@ mod view;
 mod vtable;
 
 pub use args::ExecutionArgs;
-pub use array::{
-    ArrayRef, BoolArray, ConstantArray, ExtensionArray, MaskedArray, PrimitiveArray,
-};
+pub use array::{ArrayRef, BoolArray, ConstantArray, ExtensionArray, MaskedArray, PrimitiveArray};
 pub use binary::{BinaryKind, BinaryView};
 pub use buffer::Buffer;
 pub use ctx::ExecutionCtx;

@@ -57,7 +57,6 @@ pub trait NativeInt: Copy {
     ghost lent_by_type: { (values : PrimitiveValues) → ptype_of values ≡ ptype → IsSome (lent (Some values)) };
 }
 
-
 impl NativeInt for i8 {
     ghost use Rattle.colbase.specs.declared.values.PrimitiveValues.TheVariants.{I8};
     ghost use Rattle.colbase.specs.declared.dtype.PType.TheVariants.{I8 as ptype_i8};

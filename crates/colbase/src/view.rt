@@ -5,6 +5,7 @@ use crate::vtable::VTable;
 use std::marker::PhantomData;
 
 /// An array that is known to have the layout `V`.
+#[derive(Drop)]
 pub struct ArrayView<'a, V: VTable> {
     array: &'a ArrayRef,
     layout: PhantomData<V>,

@@ -72,7 +72,12 @@ fn hide_whole(child: &ArrayRef, valid: &BitBuffer, ctx: ExecutionCtx) -> Res<Arr
 }
 
 // A masked array under one more mask.
-fn hide_masked(child: &ArrayRef, v: &Validity, valid: &BitBuffer, ctx: ExecutionCtx) -> Res<ArrayRef>
+fn hide_masked(
+    child: &ArrayRef,
+    v: &Validity,
+    valid: &BitBuffer,
+    ctx: ExecutionCtx,
+) -> Res<ArrayRef>
     requires sound { Sound (masked child.now v.now) }
     requires counted { length valid.now ≡ len child.now }
     ensures made { IfOk result (λ a. a ≡ masked child.now (validity_and v.now (Validity.Array valid.now))) }

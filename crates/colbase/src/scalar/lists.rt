@@ -90,7 +90,12 @@ fn list_dtype(element: DType, nullability: Nullability, ctx: ExecutionCtx) -> Re
 }
 
 // The type of lists of this many elements.
-fn fixed_dtype(element: DType, width: u32, nullability: Nullability, ctx: ExecutionCtx) -> Res<DType>
+fn fixed_dtype(
+    element: DType,
+    width: u32,
+    nullability: Nullability,
+    ctx: ExecutionCtx,
+) -> Res<DType>
     ensures made { IfOk result (λ d. logical_type d ≡ fixed_size_list (logical_type element) width nullability) }
     ensures errors { IfErr result (λ e. e ≡ Fault.Memory) }
 {

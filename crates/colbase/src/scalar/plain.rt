@@ -38,10 +38,7 @@ impl Scalar {
         ensures errors { IfErr result (λ e. e ≡ Fault.Memory) }
     {
         let values = Buffer::from_vec(Vec::from_slice(ctx.alloc(), text.as_bytes())?, ctx)?;
-        Ok(Scalar::made(
-            DType::Utf8(nullability),
-            Some(ScalarValue::Bytes(values)),
-        ))
+        Ok(Scalar::made(DType::Utf8(nullability), Some(ScalarValue::Bytes(values))))
     }
 
     pub fn binary(values: &[u8], nullability: Nullability, ctx: ExecutionCtx) -> Res<Scalar>
@@ -50,10 +47,7 @@ impl Scalar {
         ensures errors { IfErr result (λ e. e ≡ Fault.Memory) }
     {
         let values = Buffer::from_vec(Vec::from_slice(ctx.alloc(), values)?, ctx)?;
-        Ok(Scalar::made(
-            DType::Binary(nullability),
-            Some(ScalarValue::Bytes(values)),
-        ))
+        Ok(Scalar::made(DType::Binary(nullability), Some(ScalarValue::Bytes(values))))
     }
 
     /// The value of the storage under a named type.

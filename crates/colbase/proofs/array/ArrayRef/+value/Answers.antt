@@ -1,7 +1,7 @@
 use Rattle.std.proofs.Common.{◌≡◌, ◌∙◌, Option, ap, sym}
 use Rattle.std.specs.Prelude.{IsTrue, option_map}
 use Rattle.colbase.specs.declared.scalar.ScalarValue.{ScalarValue}
-use Rattle.colbase.specs.Arrays.{dtype, masked, masked_type}
+use Rattle.colbase.specs.Arrays.{dtype, masked}
 use Rattle.colbase.specs.ArrayOf.{array_of}
 use Rattle.colbase.specs.CellOf.{cell_of}
 use Rattle.colbase.specs.Fits.{fits_type, is_nullable}

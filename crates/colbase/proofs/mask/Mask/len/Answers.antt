@@ -1,9 +1,6 @@
 use Rattle.std.proofs.Common.{◌∙◌, true, false, length, ap, sym}
-use Rattle.std.specs.Prelude.{count_by}
-use Rattle.bitlane.specs.Bits.{bit}
-use Rattle.bitlane.proofs.Tables.{length-tabulate, get_or-tabulate}
+use Rattle.bitlane.proofs.Tables.{length-tabulate}
 use Rattle.colbase.specs.Masks.{mask_bits}
-use Rattle.colbase.proofs.Masks.{count_all, count_none}
 use Rattle.colbase.proofs.mask.Mask.len.Goals as goal
 
 pub returns-in-AllTrue : goal.returns-in-AllTrue

@@ -1,7 +1,5 @@
-use Rattle.std.proofs.Common.{◌∙◌, true, false, length, ap, sym}
+use Rattle.std.proofs.Common.{◌∙◌, ap, sym}
 use Rattle.std.specs.Prelude.{count_by}
-use Rattle.bitlane.specs.Bits.{bit}
-use Rattle.bitlane.proofs.Tables.{length-tabulate, get_or-tabulate}
 use Rattle.colbase.specs.Masks.{mask_bits}
 use Rattle.colbase.proofs.Masks.{count_all, count_none}
 use Rattle.colbase.proofs.mask.Mask.true_count.Goals as goal

@@ -1,7 +1,6 @@
-use Rattle.std.proofs.Common.{◌∙◌, List, ap, map, sym}
+use Rattle.std.proofs.Common.{◌∙◌, List, ap, map}
 use Rattle.colbase.specs.Cell.{list_of}
 use Rattle.colbase.specs.declared.scalar.Scalar.{Scalar}
-use Rattle.colbase.specs.LogicalType.{list}
 use Rattle.colbase.specs.LogicalTypeOf.{logical_type}
 use Rattle.colbase.specs.Scalars.{scalar_cell}
 use Rattle.colbase.proofs.Scalars.{list_fits}

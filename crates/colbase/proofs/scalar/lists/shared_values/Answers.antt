@@ -1,4 +1,4 @@
-use Rattle.std.proofs.Common.{◌∙◌, ◌++◌, ◌∷◌, [], ap, sym, map, take}
+use Rattle.std.proofs.Common.{ap}
 use Rattle.colbase.proofs.Scalars.{values-more}
 use Rattle.colbase.proofs.scalar.lists.shared_values.Goals as goal
 
