@@ -1,17 +1,17 @@
 -- The columns of a batch fit its call.
-use Rattle.std.proofs.Common.{◌≡◌, ℕ, Bool, true, false, ◌&&◌, List, [], ◌∷◌, Option, Some, None, option_map, option_and_then, sym, refl, subst, ap, arith, rules}
+use Rattle.std.proofs.Common.{◌≡◌, ℕ, Bool, true, false, List, [], ◌∷◌, Option, Some, None, option_map, option_and_then, sym, refl, subst, arith, rules}
 use Rattle.std.specs.Prelude.{if◌then◌else◌}
 use Rattle.std.specs.Prelude.{codes}
 use Rattle.std.specs.Str.{bytes_eq}
 use Rattle.serde_json.specs.Data.{Data, Items, no_items, item}
-use Rattle.colbase.specs.Arrays.{Array, primitive, len}
+use Rattle.colbase.specs.Arrays.{Array, len}
 use Rattle.colbase.specs.declared.dtype.PType.{PType}
 use Rattle.colbase.specs.declared.dtype.Nullability.{Nullability}
 use Rattle.colbase.specs.declared.dtype.PType.TheVariants as p
 use Rattle.rowexec.specs.WrappingAdd.{IsI64Array}
 use Rattle.rowrun.specs.declared.batch.Call.{Call}
 use Rattle.rowrun.specs.declared.batch.Call.TheVariants.{WrappingAdd}
-use Rattle.rowrun.specs.Batch.{all_in, i64_cells, primitive_values, primitive_in, column_in, columns_in, takes, text_in, array_in, integer_type, has_keys, ◌>>=◌}
+use Rattle.rowrun.specs.Batch.{i64_cells, primitive_values, primitive_in, column_in, columns_in, takes, text_in, array_in, integer_type, has_keys, ◌>>=◌}
 use Rattle.rowrun.specs.Fits.{Fits}
 use borrow.Author.Tests.{tests}
 

@@ -1,5 +1,5 @@
 -- The arrays that numbers and marks make.
-use Rattle.std.proofs.Common.{◌≡◌, ℤ, List, Bool, map, Option, Some, option_map, ap, sym, ◌∙◌, subst}
+use Rattle.std.proofs.Common.{◌≡◌, ℤ, List, Bool, map, Option, Some, option_map, ap, sym, ◌∙◌}
 use Rattle.serde_json.specs.Data.{Items}
 use Rattle.colbase.specs.Arrays.{Array, primitive}
 use Rattle.colbase.specs.declared.validity.Validity.{Validity}

@@ -1,6 +1,6 @@
 -- The JSON value of bytes, and two columns.
-use Rattle.std.proofs.Common.{◌≡◌, ◌<◌, ℕ, List, [], ◌∷◌, length, get_or, Option, Some, None, ap, refl, sym, ◌∙◌, subst, cond, Bool, true, false, eq-eqb, arith, suc, ◌+◌, add-one}
-use Rattle.std.specs.Prelude.{◌==◌, if◌then◌else◌}
+use Rattle.std.proofs.Common.{◌≡◌, ℕ, List, [], ◌∷◌, length, None, ap, refl, ◌∙◌, Bool, true, false, arith, ◌+◌, add-one}
+use Rattle.std.specs.Prelude.{if◌then◌else◌}
 use Rattle.std.specs.Str.{IsUtf8, IsValidUpTo}
 use Rattle.std.specs.Str.Lossy.{utf8_valid_len}
 use Rattle.std.specs.Str.{is_utf8}

@@ -1,5 +1,5 @@
 -- The lines of the rows, one after the other.
-use Rattle.std.proofs.Common.{◌≡◌, ℕ, ℤ, ◌+◌, ◌<◌, pos, Bool, true, false, List, [], ◌∷◌, ◌++◌, length, get_or, Option, Some, None, option_map, ap, refl, sym, ◌∙◌, subst, append_assoc, arith}
+use Rattle.std.proofs.Common.{◌≡◌, ℕ, ℤ, ◌+◌, pos, Bool, true, false, List, [], ◌∷◌, ◌++◌, get_or, Option, Some, None, option_map, ap, refl, sym, ◌∙◌, subst, append_assoc}
 use Rattle.std.specs.Prelude.{is_some, if◌then◌else◌}
 use Rattle.std.specs.List.{flat_map}
 use Rattle.std.proofs.lemmas.List.{append-nil}
@@ -8,7 +8,7 @@ use Rattle.bitlane.specs.Bits.{tabulate}
 use Rattle.bitlane.proofs.Tables.{tabulate-more}
 use Rattle.colbase.specs.Cell.{Cell, number}
 use Rattle.colbase.specs.LogicalType.{LogicalType}
-use Rattle.colbase.specs.Arrays.{Array, primitive, row, if_valid}
+use Rattle.colbase.specs.Arrays.{Array, primitive, row}
 use Rattle.colbase.specs.Valid.{valid_at}
 use Rattle.colbase.specs.declared.validity.Validity.{Validity}
 use Rattle.colbase.specs.declared.values.PrimitiveValues.TheVariants.{I64}

@@ -191,65 +191,76 @@ fn other_bytes_are_no_json(rt: HostRuntime) -> Result<(), Fail> {
     Ok(())
 }
 
-/// A batch with this first column, a second one of three values, and a further member.
-fn with_column(alloc: Global, column: &str, more: &str) -> Result<String, AllocError> {
+/// The batch of the parts, in their order: a call, options, a number of rows, columns and further members.
+fn batch(alloc: Global, head: &[&str; 3], columns: &str, more: &str) -> Result<String, AllocError> {
+    let [call, options, rows] = head;
     format!(in alloc;
-        "{{\"call\":\"wrapping_add\",\"options\":{{}},\"rows\":3,\"columns\":[{column},{{\"layout\":\"primitive\",\"type\":\"i64\",\"values\":[1,2,3]}}]{more}}}"
+        "{{\"call\":{call},\"options\":{options},\"rows\":{rows},\"columns\":[{columns}]{more}}}"
     )
 }
 
-/// A batch of this call with these options and this number of rows, and two columns of three values.
-fn with_head(alloc: Global, call: &str, options: &str, rows: &str) -> Result<String, AllocError> {
-    let column = "{\"layout\":\"primitive\",\"type\":\"i64\",\"values\":[1,2,3]}";
-    format!(in alloc;
-        "{{\"call\":{call},\"options\":{options},\"rows\":{rows},\"columns\":[{column},{column}]}}"
-    )
-}
+const HEAD: &[&str; 3] = &["\"wrapping_add\"", "{}", "1"];
+
+const ONE: &str = "{\"layout\":\"primitive\",\"type\":\"i64\",\"values\":[1]}";
 
 #[test]
 fn other_columns_are_not_built(rt: HostRuntime) -> Result<(), Fail> {
     let alloc = rt.alloc();
-    let (status, held) = answered(
-        alloc,
-        with_column(
-            alloc,
-            "{\"type\":\"i64\",\"values\":[1,2,3],\"layout\":\"primitive\"}",
-            "",
-        )?
-        .as_bytes(),
-    )?;
-    assert_eq!(rt; status, 0);
-    assert_eq!(rt; held.as_slice(), b"i64\n2\n4\n6\n".as_slice());
-    for column in [
-        "null",
-        "{}",
-        "{\"layout\":\"primitive\",\"type\":\"i64\",\"values\":[1,2]}",
-        "{\"layout\":\"primitive\",\"type\":\"i64\",\"values\":[1,2,3,4]}",
-        "{\"layout\":\"primitive\",\"type\":\"i64\",\"values\":[1,null,3]}",
-        "{\"layout\":\"primitive\",\"type\":\"i64\",\"values\":[1,2,3.0]}",
-        "{\"layout\":\"primitive\",\"type\":\"i64\",\"values\":[1,2,3e0]}",
-        "{\"layout\":\"primitive\",\"type\":\"i64\",\"values\":[1,2,-0]}",
-        "{\"layout\":\"primitive\",\"type\":\"i64\",\"values\":[1,2,true]}",
-        "{\"layout\":\"primitive\",\"type\":\"i64\",\"values\":[1,2,\"3\"]}",
-        "{\"layout\":\"primitive\",\"type\":\"i64\",\"values\":[1,2,9223372036854775808]}",
-        "{\"layout\":\"primitive\",\"type\":\"i64\",\"values\":[1,2,-9223372036854775809]}",
-        "{\"layout\":\"primitive\",\"type\":\"i64\",\"values\":{}}",
-        "{\"layout\":\"primitive\",\"type\":\"i64\"}",
-        "{\"layout\":\"primitive\",\"values\":[1,2,3]}",
-        "{\"type\":\"i64\",\"values\":[1,2,3]}",
-        "{\"layout\":\"primitive\",\"type\":\"i64?\",\"values\":[1,2,3],\"valid\":[true,true,true]}",
-        "{\"layout\":\"primitive\",\"type\":\"i64?\",\"values\":[1,2,3],\"valid\":\"none\"}",
-        "{\"layout\":\"primitive\",\"type\":\"i32\",\"values\":[1,2,3]}",
-        "{\"layout\":\"primitive\",\"type\":\"u64?\",\"values\":[1,2,3]}",
-        "{\"layout\":\"primitive\",\"type\":\"i64??\",\"values\":[1,2,3]}",
-        "{\"layout\":\"primitive\",\"type\":{\"list\":\"i64\",\"nullable\":false},\"values\":[1,2,3]}",
-        "{\"layout\":\"bool\",\"type\":\"bool\",\"values\":[true,true,false]}",
-        "{\"layout\":\"text\",\"type\":\"utf8\",\"values\":[\"a\",\"b\",\"c\"]}",
-        "{\"layout\":\"constant\",\"type\":\"i64\",\"value\":1,\"len\":3}",
+    for (members, wanted) in [
+        (
+            "\"type\":\"i64\",\"values\":[1],\"layout\":\"primitive\"",
+            0,
+        ),
+        ("\"layout\":\"primitive\",\"type\":\"i64\",\"values\":[]", 8),
+        (
+            "\"layout\":\"primitive\",\"type\":\"i64\",\"values\":[1,2]",
+            8,
+        ),
+        ("\"layout\":\"primitive\",\"type\":\"i64\",\"values\":{}", 8),
+        ("\"layout\":\"primitive\",\"type\":\"i64\"", 8),
+        ("\"layout\":\"primitive\",\"values\":[1]", 8),
+        ("\"type\":\"i64\",\"values\":[1]", 8),
+        (
+            "\"layout\":\"primitive\",\"type\":\"i64?\",\"values\":[1],\"valid\":[true]",
+            8,
+        ),
+        (
+            "\"layout\":\"primitive\",\"type\":\"i32\",\"values\":[1]",
+            8,
+        ),
+        ("\"layout\":\"bool\",\"type\":\"bool\",\"values\":[true]", 8),
+        (
+            "\"layout\":\"constant\",\"type\":\"i64\",\"value\":1,\"len\":1",
+            8,
+        ),
     ] {
-        let (status, held) = answered(alloc, with_column(alloc, column, "")?.as_bytes())?;
-        assert_eq!(rt; status, 8, "{column}");
-        assert_eq!(rt; held.as_slice(), b"unbuilt\n".as_slice(), "{column}");
+        let columns = format!(in alloc; "{{{members}}},{ONE}")?;
+        let (status, held) = answered(alloc, batch(alloc, HEAD, &columns, "")?.as_bytes())?;
+        assert_eq!(rt; status, wanted, "{members}");
+        let text = if wanted == 0 { "i64\n2\n" } else { "unbuilt\n" };
+        assert_eq!(rt; held.as_slice(), text.as_bytes(), "{members}");
+    }
+    Ok(())
+}
+
+#[test]
+fn other_values_are_not_built(rt: HostRuntime) -> Result<(), Fail> {
+    let alloc = rt.alloc();
+    for value in [
+        "null",
+        "1.0",
+        "1e0",
+        "-0",
+        "true",
+        "\"1\"",
+        "9223372036854775808",
+        "-9223372036854775809",
+    ] {
+        let columns = format!(in alloc;
+            "{{\"layout\":\"primitive\",\"type\":\"i64\",\"values\":[{value}]}},{ONE}"
+        )?;
+        let (status, _) = answered(alloc, batch(alloc, HEAD, &columns, "")?.as_bytes())?;
+        assert_eq!(rt; status, 8, "{value}");
     }
     Ok(())
 }
@@ -257,59 +268,39 @@ fn other_columns_are_not_built(rt: HostRuntime) -> Result<(), Fail> {
 #[test]
 fn other_batches_are_not_built(rt: HostRuntime) -> Result<(), Fail> {
     let alloc = rt.alloc();
-    let column = "{\"layout\":\"primitive\",\"type\":\"i64\",\"values\":[1,2,3]}";
-    for (batch, wanted) in [
-        (with_head(alloc, "\"wrapping_add\"", "{}", "3")?, 0),
-        (with_head(alloc, "\"wrapping_add\"", "{\"a\":1}", "3")?, 8),
-        (with_head(alloc, "\"wrapping_add\"", "[]", "3")?, 8),
-        (with_head(alloc, "\"checked_add\"", "{}", "3")?, 8),
-        (with_head(alloc, "7", "{}", "3")?, 8),
-        (with_head(alloc, "\"wrapping_add\"", "{}", "3.0")?, 8),
-        (with_head(alloc, "\"wrapping_add\"", "{}", "-3")?, 8),
-        (with_head(alloc, "\"wrapping_add\"", "{}", "2")?, 8),
-        (with_column(alloc, column, ",\"more\":1")?, 8),
-        (
-            format!(in alloc;
-                "{{\"call\":\"wrapping_add\",\"options\":{{}},\"rows\":3,\"columns\":[{column}]}}"
-            )?,
-            8,
-        ),
-        (
-            format!(in alloc;
-                "{{\"call\":\"wrapping_add\",\"options\":{{}},\"rows\":3,\"columns\":[{column},{column},{column}]}}"
-            )?,
-            8,
-        ),
-        (
-            format!(in alloc;
-                "{{\"call\":\"wrapping_add\",\"options\":{{}},\"columns\":[{column},{column}]}}"
-            )?,
-            8,
-        ),
+    let two = format!(in alloc; "{ONE},{ONE}")?;
+    for (head, more, wanted) in [
+        (HEAD, "", 0),
+        (HEAD, ",\"more\":1", 8),
         // The last value of a repeated key stays.
-        (
-            format!(in alloc;
-                "{{\"call\":7,\"call\":\"wrapping_add\",\"options\":{{}},\"rows\":3,\"columns\":[{column},{column}]}}"
-            )?,
-            0,
-        ),
-        (
-            format!(in alloc;
-                "{{\"call\":\"wrapping_add\",\"call\":7,\"options\":{{}},\"rows\":3,\"columns\":[{column},{column}]}}"
-            )?,
-            8,
-        ),
-        (format!(in alloc; "[]")?, 8),
-        (format!(in alloc; "null")?, 8),
+        (&["7", "{}", "1"], ",\"call\":\"wrapping_add\"", 0),
+        (HEAD, ",\"call\":7", 8),
+        (&["\"wrapping_add\"", "{\"a\":1}", "1"], "", 8),
+        (&["\"wrapping_add\"", "[]", "1"], "", 8),
+        (&["\"checked_add\"", "{}", "1"], "", 8),
+        (&["\"wrapping_add\"", "{}", "1.0"], "", 8),
+        (&["\"wrapping_add\"", "{}", "-1"], "", 8),
+        (&["\"wrapping_add\"", "{}", "0"], "", 8),
     ] {
-        let (status, held) = answered(alloc, batch.as_bytes())?;
-        assert_eq!(rt; status, wanted, "{batch}");
-        let text = if wanted == 0 {
-            "i64\n2\n4\n6\n"
-        } else {
-            "unbuilt\n"
-        };
-        assert_eq!(rt; held.as_slice(), text.as_bytes(), "{batch}");
+        let input = batch(alloc, head, &two, more)?;
+        let (status, held) = answered(alloc, input.as_bytes())?;
+        assert_eq!(rt; status, wanted, "{input}");
+        let text = if wanted == 0 { "i64\n2\n" } else { "unbuilt\n" };
+        assert_eq!(rt; held.as_slice(), text.as_bytes(), "{input}");
+    }
+    Ok(())
+}
+
+#[test]
+fn another_number_of_columns_is_not_built(rt: HostRuntime) -> Result<(), Fail> {
+    let alloc = rt.alloc();
+    let three = format!(in alloc; "{ONE},{ONE},{ONE}")?;
+    for columns in ["", ONE, three.as_str()] {
+        let (status, _) = answered(alloc, batch(alloc, HEAD, columns, "")?.as_bytes())?;
+        assert_eq!(rt; status, 8, "{columns}");
+    }
+    for input in ["[]", "null", "{}", "7", "\"run\""] {
+        assert_eq!(rt; answered(alloc, input.as_bytes())?.0, 8, "{input}");
     }
     Ok(())
 }

@@ -1,4 +1,4 @@
-use Rattle.std.proofs.Common.{◌≡◌, ℤ, map, drop, Some}
+use Rattle.std.proofs.Common.{◌≡◌, map, drop, Some}
 use Rattle.serde_json.specs.View.{items_view}
 use Rattle.colbase.specs.declared.dtype.Nullability.TheVariants.{NonNullable}
 use Rattle.rowrun.specs.Batch.{i64_cells}

@@ -1,5 +1,4 @@
-use Rattle.std.proofs.Common.{arith, rules, length, ℕ, ℤ, ◌≡◌, ◌<◌, ◌++◌, ◌∷◌, [], w64, SFits, pos, ◌∙◌, ap, List, Bool}
-use Rattle.std.specs.Prelude.{is_some, unwrap_or}
+use Rattle.std.proofs.Common.{arith, rules, length, ℤ, ◌≡◌, ◌<◌, ◌++◌, ◌∷◌, [], w64, SFits, ◌∙◌, ap, Bool}
 use Rattle.std.proofs.lemmas.Int.{to_z-of_z}
 use Rattle.std.proofs.Common.{sym}
 use Rattle.rowrun.proofs.Items.{read_more}

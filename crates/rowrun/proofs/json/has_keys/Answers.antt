@@ -1,8 +1,6 @@
-use Rattle.std.proofs.Common.{◌≡◌, sym, ap, nat_eq, ◌∙◌, Some, ℕ, length, map}
+use Rattle.std.proofs.Common.{◌≡◌, sym, ap, nat_eq, ◌∙◌, ℕ, map}
 use Rattle.std.proofs.lemmas.List.{length-map}
-use Rattle.serde_json.specs.Data.{Members, Data}
 use Rattle.serde_json.specs.View.{view, members_view}
-use Rattle.serde_json.specs.Find.{as_object}
 use Rattle.rowrun.specs.Batch.{has_keys, member_count, counted}
 use Rattle.rowrun.proofs.JsonText.{member_count-members_of}
 use Rattle.rowrun.proofs.json.has_keys.Goals as goal

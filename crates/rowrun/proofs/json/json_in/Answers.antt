@@ -1,4 +1,4 @@
-use Rattle.std.proofs.Common.{◌≡◌, ap, sym, ◌∙◌, rules}
+use Rattle.std.proofs.Common.{ap, sym, ◌∙◌, rules}
 use Rattle.serde_json.specs.Read.{read}
 use Rattle.serde_json.specs.Errors.{IsMemory}
 use Rattle.rowrun.proofs.JsonText.{json_of_text, json_of_bytes}
