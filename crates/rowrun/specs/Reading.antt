@@ -1,8 +1,8 @@
 -- How a reader of the batch answers.
 use Rattle.std.specs.Prelude.{◌≡◌, ℤ, Bool, List, map, Option, Some, None, is_some, Result, Ok, Err}
 use Rattle.rowrun.specs.Batch.{stored_numbers}
-use Rattle.rowrun.specs.declared.json.Stop.{Stop}
-use Rattle.rowrun.specs.declared.json.Stop.TheVariants.{Memory, NoBatch}
+use Rattle.rowrun.specs.declared.tree.Stop.{Stop}
+use Rattle.rowrun.specs.declared.tree.Stop.TheVariants.{Memory, NoBatch}
 use Rattle.colbase.specs.declared.fault.Fault.{Fault}
 use Rattle.colbase.specs.declared.fault.Fault.TheVariants as fault
 

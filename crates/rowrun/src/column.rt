@@ -8,7 +8,7 @@ ghost use Rattle.bitlane.specs.Bits.{bit};
 ghost use Rattle.rowrun.specs.Batch.{integer_type, i64_cell, i64_cells, marked, primitive_values, primitive_in, column_in};
 ghost use Rattle.rowrun.specs.Reading.{Gives, AreOf};
 
-use crate::json::{Stop, array_in, has_keys, text_in};
+use crate::tree::{Stop, array_in, has_keys, text_in};
 use bitlane::BitBuffer;
 use colbase::{ArrayRef, Buffer, ExecutionCtx, Nullability, PType, PrimitiveArray, Validity};
 use serde_json::Value;

@@ -9,7 +9,7 @@ ghost use Rattle.rowrun.specs.Reading.{Gives};
 
 use crate::batch::{Batch, Call};
 use crate::column::column_in;
-use crate::json::{JsonStop, Stop, array_in, has_keys, json_in, number_in, text_in};
+use crate::tree::{JsonStop, Stop, array_in, has_keys, json_in, number_in, text_in};
 use colbase::{ArrayRef, ExecutionArgs, ExecutionCtx};
 use serde_json::Value;
 use std::alloc::Global;

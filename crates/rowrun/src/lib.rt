@@ -5,8 +5,8 @@ mod batch;
 mod call;
 mod column;
 mod input;
-mod json;
 mod print;
+mod tree;
 
 pub use call::run;
 pub use rowtext::{

@@ -3,7 +3,7 @@ use Rattle.std.proofs.lemmas.List.{length-map}
 use Rattle.serde_json.specs.View.{view, members_view}
 use Rattle.rowrun.specs.Batch.{has_keys, member_count, counted}
 use Rattle.rowrun.proofs.JsonText.{member_count-members_of}
-use Rattle.rowrun.proofs.json.has_keys.Goals as goal
+use Rattle.rowrun.proofs.tree.has_keys.Goals as goal
 
 pub returns-in-Some : goal.returns-in-Some
 unfolding has_keys

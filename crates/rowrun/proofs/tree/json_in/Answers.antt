@@ -2,7 +2,7 @@ use Rattle.std.proofs.Common.{ap, sym, ◌∙◌, rules}
 use Rattle.serde_json.specs.Read.{read}
 use Rattle.serde_json.specs.Errors.{IsMemory}
 use Rattle.rowrun.proofs.JsonText.{json_of_text, json_of_bytes}
-use Rattle.rowrun.proofs.json.json_in.Goals as goal
+use Rattle.rowrun.proofs.tree.json_in.Goals as goal
 
 pub returns-in-Ok-from_str-clause-ok : goal.returns-in-Ok-from_str-clause-ok
 returns-in-Ok-from_str-clause-ok c =

@@ -1,7 +1,7 @@
 // The parts of a JSON value, and why one states no batch.
 ghost use Rattle.std.specs.Prelude.{◌≡◌, option_map, IfOk, IsErrOf, Some, None};
 ghost use Rattle.serde_json.specs.View.{view, items_view};
-ghost use Rattle.rowrun.specs.declared.json.Stop.TheVariants.{Memory};
+ghost use Rattle.rowrun.specs.declared.tree.Stop.TheVariants.{Memory};
 ghost use Rattle.rowrun.specs.Batch.{has_keys, text_in, array_in, number_in, json_of};
 ghost use Rattle.rowrun.specs.Reading.{stop_of};
 
