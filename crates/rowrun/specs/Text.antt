@@ -76,7 +76,7 @@ type_text (extension name unit zone storage) =
 
 -- the type without the extensions around it
 abbrev pub storage_type : LogicalType → LogicalType
-storage_type (extension name unit zone storage) = storage_type storage
+storage_type (extension _ _ _ storage) = storage_type storage
 storage_type t = t
 
 abbrev pub element_type : LogicalType → LogicalType
