@@ -67,7 +67,8 @@ impl BitBuffer {
         BitBuffer::from_vec(alloc, Vec::from_elem(alloc, false, len)?)
     }
 
-    fn from_vec(alloc: Global, bits: Vec<bool>) -> Result<BitBuffer, AllocError>
+    /// The values of a `Vec`, none of which is copied.
+    pub fn from_vec(alloc: Global, bits: Vec<bool>) -> Result<BitBuffer, AllocError>
         ensures { IfOk result (λ b. b ≡ bits.items) }
     {
         Ok(BitBuffer {

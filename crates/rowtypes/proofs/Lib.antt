@@ -1,0 +1,11 @@
+pub mod Causes
+pub mod Lowest
+pub mod Payload
+pub mod Types
+pub mod Bits
+pub mod Results
+pub mod Numbers
+pub mod Columns
+pub mod Lengths
+pub mod Sides
+pub mod SidesFail

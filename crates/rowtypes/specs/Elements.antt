@@ -1,0 +1,13 @@
+-- What the elements of truth values and of integers show.
+use Rattle.std.specs.Prelude.{ℕ, pos, false}
+use Rattle.colbase.specs.Cell.{Cell, truth, number}
+use Rattle.colbase.specs.Arrays.{Array}
+use Rattle.rowtypes.specs.Shown.{shown_by, stored_or}
+
+-- under nulls the stored truth value, and false where none is stored
+abbrev pub shown_truth : Array → ℕ → Cell
+shown_truth = shown_by (stored_or (truth false))
+
+-- under nulls the stored number, and zero where none is stored
+abbrev pub shown_number : Array → ℕ → Cell
+shown_number = shown_by (stored_or (number (pos 0)))

@@ -1,0 +1,10 @@
+pub mod Shown
+pub mod Unmasked
+pub mod Reading
+pub mod Elements
+pub mod Outputs
+pub mod Places
+pub mod Filled
+pub mod Rows
+pub mod Arguments
+pub mod SideBySide

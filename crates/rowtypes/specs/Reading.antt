@@ -1,0 +1,57 @@
+-- Which cells an element reads, and why a column can't be decoded.
+use Rattle.std.specs.Prelude.{◌≡◌, ℕ, ℤ, Bool, IsTrue, true, false, ⊤, ◌⊎◌, Option, Some, Result, Ok, Err, if◌then◌else◌}
+use Rattle.colbase.specs.declared.dtype.PType.{PType}
+use Rattle.colbase.specs.declared.dtype.PType.TheVariants as p
+use Rattle.colbase.specs.declared.fault.Fault.{Fault}
+use Rattle.colbase.specs.declared.fault.Fault.TheVariants.{Memory, Decode, Dtype}
+use Rattle.colbase.specs.Cell.{Cell, truth, number, bytes, list}
+use Rattle.colbase.specs.Fits.{in_range}
+use Rattle.colbase.specs.LogicalType as t
+use Rattle.colbase.specs.Arrays.{Array, MustRead, constant_cell}
+
+-- a cell of the array that must be read and is not
+pub record Unread (reads : Cell → Type 0) (a : Array) : Type 0 where
+  pub cell : Cell
+  pub must : MustRead a cell
+  pub unread : reads cell → ⊥
+
+-- want of memory, or a cell that is not read
+abbrev pub DecodeCause : (Cell → Type 0) → Array → Fault → Type 0
+DecodeCause reads a e = (e ≡ Memory) ⊎ ((e ≡ Decode 0) × Unread reads a)
+
+-- want of memory, or a batch constant whose value is not read
+abbrev pub ConstantCause : (Cell → Type 0) → Array → Fault → Type 0
+ConstantCause reads a e = (e ≡ Memory) ⊎ ((e ≡ Decode 0) × ((x : Cell) → constant_cell a ≡ Some x → reads x → ⊥))
+
+-- the answer to a type that is accepted or not
+abbrev pub checked_type : Bool → Result ⊤ Fault
+checked_type accepted = if accepted then Ok tt else Err (Dtype 0)
+
+abbrev pub IsTruth : Cell → Type 0
+IsTruth (truth b) = ⊤
+IsTruth _ = ⊥
+
+-- a whole number in the range of the type
+abbrev pub IsNumberOf : PType → Cell → Type 0
+IsNumberOf p (number z) = IsTrue (in_range p z)
+IsNumberOf p _ = ⊥
+
+abbrev pub same_ptype : PType → PType → Bool
+same_ptype p.I8 p.I8 = true
+same_ptype p.I16 p.I16 = true
+same_ptype p.I32 p.I32 = true
+same_ptype p.I64 p.I64 = true
+same_ptype p.U8 p.U8 = true
+same_ptype p.U16 p.U16 = true
+same_ptype p.U32 p.U32 = true
+same_ptype p.U64 p.U64 = true
+same_ptype _ _ = false
+
+-- an integer type of this kind, nullable or not
+abbrev pub is_integer : PType → t.LogicalType → Bool
+is_integer p (t.primitive q n) = same_ptype p q
+is_integer p _ = false
+
+abbrev pub is_bool : t.LogicalType → Bool
+is_bool (t.bool n) = true
+is_bool _ = false
