@@ -39,15 +39,15 @@ pub trait TopCall<E> {
         ensures { IfOk result (λ answer.
             input_leads self.now engine.old engine.new (map string_bytes words.now) bytes.now answer) };
 
-    /// The answer to words that need no input. A call that knows no such words keeps this body.
+    /// The answer to words that need no input; nothing is asked of it at other words, at which it isn't called. A call
+    /// that knows no such words keeps this body.
     fn answer_words(
         &self,
         alloc: Global,
         words: &[String],
         engine: &mut E,
     ) -> Result<Answer, AllocError>
-        requires { command self.now (map string_bytes words.now) ≡ Command.WithoutInput }
-        ensures { IfOk result (λ answer.
+        ensures { command self.now (map string_bytes words.now) ≡ Command.WithoutInput → IfOk result (λ answer.
             words_lead self.now engine.old engine.new (map string_bytes words.now) answer) }
     {
         Err(AllocError)

@@ -1,4 +1,4 @@
-use Rattle.std.proofs.Common.{refl, sym, rules}
+use Rattle.std.proofs.Common.{refl, sym}
 use Rattle.rowtext.specs.Causes.{usage, of_words}
 use Rattle.rowtext.proofs.top_call.plan_of.Goals as goal
 
@@ -7,4 +7,4 @@ returns-in-Unknown-clause-cause g c = usage (sym c.in-Unknown.ensures) refl
 
 pub returns-in_ok-answered-in-WithoutInput-clause-cause : goal.returns-in_ok-answered-in-WithoutInput-clause-cause
 returns-in_ok-answered-in-WithoutInput-clause-cause g c =
-    of_words c.in_ok-answered-in-WithoutInput.answered (sym c.in-WithoutInput.ensures) refl (search rules)
+    of_words c.in_ok-answered-in-WithoutInput.answered (sym c.in-WithoutInput.ensures) refl (c.in_ok-answered-in-WithoutInput.ensures (sym c.in-WithoutInput.ensures))
