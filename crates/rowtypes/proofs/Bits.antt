@@ -1,10 +1,10 @@
 -- Truth values that are stored, and a list of one truth value.
-use Rattle.std.proofs.Common.{◌≡◌, ◌∙◌, ℕ, zero, suc, ◌<◌, Bool, true, false, List, length, Option, Some, None, refl, ap, sym, subst, arith}
+use Rattle.std.proofs.Common.{◌≡◌, ◌∙◌, ℕ, zero, suc, ◌<◌, Bool, false, List, length, Some, refl, ap, sym, subst, arith}
 use Rattle.std.specs.Prelude.{replicate}
 use Rattle.bitlane.specs.Bits.{bit}
 use Rattle.colbase.specs.Cell.{Cell, truth}
 use Rattle.colbase.specs.Parts.{bits_of}
-use Rattle.colbase.specs.Arrays.{Array, bool, stored, len, MustRead}
+use Rattle.colbase.specs.Arrays.{Array, bool, len, MustRead}
 use Rattle.rowtypes.specs.Shown.{stored_or}
 use Rattle.rowtypes.specs.Elements.{shown_truth}
 use Rattle.rowtypes.specs.Unmasked.{unmasked}

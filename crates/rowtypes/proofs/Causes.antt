@@ -1,8 +1,8 @@
 -- Why an argument is not decoded.
-use Rattle.std.proofs.Common.{◌≡◌, ℕ, ◌<◌, ◌+◌, ◌-◌, ◌^◌, Bool, true, false, cond, min, nat_lt, Option, None, Some, is_some, ◌⊎◌, inl, inr, refl, sym, ap, ◌∙◌, arith, rules, IsSome}
+use Rattle.std.proofs.Common.{◌≡◌, ℕ, ◌<◌, ◌^◌, Bool, true, false, cond, nat_lt, Option, None, Some, is_some, inl, inr, refl, ap, ◌∙◌, arith}
 use Rattle.std.proofs.lemmas.Bool.Decides.{nat_tests}
 use Rattle.colbase.specs.Cell.{Cell}
-use Rattle.colbase.specs.Arrays.{Array, len, constant_cell, MustRead}
+use Rattle.colbase.specs.Arrays.{Array, len, constant_cell}
 use Rattle.colbase.specs.declared.fault.Fault.{Fault}
 use Rattle.colbase.specs.declared.fault.Fault.TheVariants.{Decode, Memory}
 use Rattle.rowtypes.specs.Shown.{batch_value}

@@ -1,5 +1,5 @@
 -- Columns of given cells, with no null.
-use Rattle.std.proofs.Common.{◌≡◌, ◌∙◌, ℕ, ℤ, zero, suc, ◌<◌, Bool, List, [], ◌∷◌, length, get_or, map, take, Option, Some, None, refl, ap, sym, subst, arith}
+use Rattle.std.proofs.Common.{◌≡◌, ◌∙◌, ℕ, zero, suc, ◌<◌, Bool, List, [], ◌∷◌, length, get_or, map, take, Option, Some, None, refl, ap, sym, subst, arith}
 use Rattle.std.specs.Prelude.{slice_get, Result, Ok, Err, IfOk}
 use Rattle.bitlane.specs.Bits.{bit, tabulate}
 use Rattle.bitlane.proofs.Tables.{length-tabulate, get_or-tabulate}
@@ -13,7 +13,7 @@ use Rattle.colbase.specs.Column.{Column}
 use Rattle.colbase.specs.LogicalType as t
 use Rattle.colbase.specs.Values.{count, number_at, ptype_of}
 use Rattle.colbase.specs.Faults.{Builds}
-use Rattle.colbase.specs.Arrays.{Array, primitive, bool, column, row, rows, len, dtype}
+use Rattle.colbase.specs.Arrays.{Array, primitive, bool, column, row, len, dtype}
 use Rattle.rowtypes.specs.Outputs.{full_column}
 
 abbrev column_with : t.LogicalType → List (Option Cell) → Column

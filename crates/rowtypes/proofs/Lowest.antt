@@ -1,5 +1,5 @@
 -- Which argument is named where one is not decoded.
-use Rattle.std.proofs.Common.{◌≡◌, ℕ, suc, ◌<◌, List, [], ◌∷◌, length, get_or, ◌⊎◌, inl, inr, refl, sym, subst, ap, ◌∙◌, arith}
+use Rattle.std.proofs.Common.{◌≡◌, ℕ, suc, ◌<◌, List, [], ◌∷◌, length, get_or, inl, inr, refl, subst, ap, ◌∙◌, arith}
 use Rattle.colbase.specs.Arrays.{Array}
 use Rattle.colbase.specs.Cell.{Cell}
 use Rattle.colbase.specs.declared.fault.Fault.{Fault}

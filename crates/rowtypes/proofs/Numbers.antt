@@ -1,5 +1,5 @@
 -- Numbers that are stored, and a list of one number.
-use Rattle.std.proofs.Common.{◌≡◌, ◌∙◌, ℕ, ℤ, zero, suc, ◌<◌, List, [], ◌∷◌, length, get_or, Option, Some, None, refl, ap, sym, subst, arith}
+use Rattle.std.proofs.Common.{◌≡◌, ◌∙◌, ℕ, ℤ, zero, suc, ◌<◌, List, [], ◌∷◌, length, get_or, Some, refl, ap, sym, subst, arith}
 use Rattle.std.specs.Prelude.{pos, replicate, slice_get, IsTrue}
 use Rattle.colbase.specs.declared.dtype.PType.{PType}
 use Rattle.colbase.specs.declared.values.PrimitiveValues.{PrimitiveValues}
@@ -7,7 +7,7 @@ use Rattle.colbase.specs.Cell.{Cell, number}
 use Rattle.colbase.specs.Fits.{in_range}
 use Rattle.colbase.specs.Values.{count, number_at}
 use Rattle.colbase.specs.Parts.{values_of}
-use Rattle.colbase.specs.Arrays.{Array, primitive, stored, len, MustRead}
+use Rattle.colbase.specs.Arrays.{Array, primitive, len, MustRead}
 use Rattle.rowtypes.specs.Shown.{stored_or}
 use Rattle.rowtypes.specs.Elements.{shown_number}
 use Rattle.rowtypes.specs.Unmasked.{unmasked}

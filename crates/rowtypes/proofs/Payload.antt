@@ -1,18 +1,12 @@
 -- What an element shows is the payload, which masks leave as it is.
-use Rattle.std.proofs.Common.{◌≡◌, ◌∙◌, ℕ, ◌<◌, Bool, true, false, List, length, Option, Some, None, refl, ap, sym, subst, nat_lt, arith, inl, inr}
-use Rattle.std.specs.Prelude.{IsSome, option_map, pos, cond}
-use Rattle.colbase.specs.declared.validity.Validity.{Validity}
-use Rattle.colbase.specs.declared.validity.Validity.TheVariants as v
-use Rattle.colbase.specs.declared.dtype.PType.{PType}
-use Rattle.colbase.specs.declared.dtype.Nullability.{Nullability}
-use Rattle.colbase.specs.Cell.{Cell, truth, number}
-use Rattle.colbase.specs.LogicalType as t
+use Rattle.std.proofs.Common.{◌≡◌, ◌∙◌, ℕ, ◌<◌, Bool, true, false, Option, Some, None, refl, ap, sym, subst, nat_lt, inl, inr}
+use Rattle.std.specs.Prelude.{IsSome, option_map, cond}
+use Rattle.colbase.specs.Cell.{Cell}
 use Rattle.colbase.specs.CellOf.{cell_of}
 use Rattle.colbase.specs.Valid.{valid_at}
-use Rattle.colbase.specs.Arrays.{Array, constant, masked, extension, primitive, bool, varbin, varbinview, list, listview, fixed_size_list, row, stored, len, dtype, if_valid, masked_type, constant_cell, MustRead}
+use Rattle.colbase.specs.Arrays.{Array, constant, masked, extension, primitive, bool, varbin, varbinview, list, listview, fixed_size_list, row, stored, len, constant_cell, MustRead}
 use Rattle.rowtypes.specs.Shown.{batch_value, shown_by, stored_or, cell_or}
 use Rattle.rowtypes.specs.Unmasked.{unmasked}
-use Rattle.rowtypes.specs.Reading.{is_bool, is_integer}
 
 pub stored-unmasked : (a : Array) (i : ℕ) → stored (unmasked a) i ≡ stored a i
 stored-unmasked (masked c v) i = stored-unmasked c i

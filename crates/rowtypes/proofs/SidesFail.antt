@@ -1,15 +1,13 @@
 -- Which argument of two tuples side by side is refused or not decoded.
-use Rattle.std.proofs.Common.{◌≡◌, ℕ, zero, suc, ◌+◌, ◌-◌, ◌^◌, ◌<◌, ◌≤◌, min, Bool, true, false, cond, List, [], ◌∷◌, ◌++◌, length, Option, None, Some, Result, Ok, Err, ◌⊎◌, inl, inr, refl, sym, ap, ◌∙◌, subst, arith}
-use Rattle.std.specs.Prelude.{⊤}
+use Rattle.std.proofs.Common.{◌≡◌, ℕ, suc, ◌+◌, ◌-◌, ◌^◌, ◌<◌, min, Bool, true, false, cond, List, [], ◌∷◌, ◌++◌, length, Option, None, Some, Ok, Err, inl, inr, refl, sym, ap, ◌∙◌, arith}
 use Rattle.colbase.specs.Cell.{Cell}
 use Rattle.colbase.specs.LogicalType.{LogicalType}
 use Rattle.colbase.specs.LogicalTypeOf.{logical_type}
 use Rattle.colbase.specs.Arrays.{Array}
 use Rattle.colbase.specs.declared.dtype.DType.{DType}
 use Rattle.colbase.specs.declared.fault.Fault.{Fault}
-use Rattle.colbase.specs.declared.fault.Fault.TheVariants.{Decode, Dtype, Memory}
-use Rattle.rowtypes.specs.Reading.{Unread}
-use Rattle.rowtypes.specs.Rows.{DecodeFails, FirstUnread, ReadsAll, ReadsAllFrom, checked_types, first_refused, logical_types, placed}
+use Rattle.colbase.specs.declared.fault.Fault.TheVariants.{Decode, Dtype}
+use Rattle.rowtypes.specs.Rows.{DecodeFails, FirstUnread, ReadsAllFrom, checked_types, first_refused, logical_types, placed}
 use Rattle.rowtypes.specs.SideBySide.{side_by_side, reads_side_by_side}
 use Rattle.rowtypes.proofs.Sides.{at_first, at_second, reads_first, reads_second}
 

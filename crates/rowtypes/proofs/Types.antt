@@ -1,5 +1,5 @@
 -- A mask over an array of an accepted type: the array below has it too.
-use Rattle.std.proofs.Common.{◌≡◌, ◌∙◌, Bool, true, false, Option, Some, None, refl, sym}
+use Rattle.std.proofs.Common.{◌≡◌, true, Option, Some, None, refl}
 use Rattle.std.specs.Prelude.{IsSome}
 use Rattle.colbase.specs.declared.validity.Validity.{Validity}
 use Rattle.colbase.specs.declared.validity.Validity.TheVariants as v

@@ -1,5 +1,5 @@
 -- An argument that is one value or a decoded column.
-use Rattle.std.specs.Prelude.{ℕ, zero, suc, Bool, Option, None, Some, List, [], ◌∷◌, ◌≡◌, refl, false}
+use Rattle.std.specs.Prelude.{ℕ, zero, suc, Option, None, Some, [], ◌∷◌, ◌≡◌, refl, false}
 use Rattle.colbase.specs.Cell.{Cell, truth}
 use Rattle.colbase.specs.Arrays.{Array, row}
 use Rattle.rowtypes.specs.Shown.{batch_value, shown_by, shown_by_constant, shown_by_row}

@@ -1,10 +1,10 @@
 -- Which cells an element reads, and why a column can't be decoded.
-use Rattle.std.specs.Prelude.{◌≡◌, ℕ, ℤ, Bool, IsTrue, true, false, ⊤, ◌⊎◌, Option, Some, Result, Ok, Err, if◌then◌else◌}
+use Rattle.std.specs.Prelude.{◌≡◌, Bool, IsTrue, true, false, ⊤, ◌⊎◌, Some, Result, Ok, Err, if◌then◌else◌}
 use Rattle.colbase.specs.declared.dtype.PType.{PType}
 use Rattle.colbase.specs.declared.dtype.PType.TheVariants as p
 use Rattle.colbase.specs.declared.fault.Fault.{Fault}
 use Rattle.colbase.specs.declared.fault.Fault.TheVariants.{Memory, Decode, Dtype}
-use Rattle.colbase.specs.Cell.{Cell, truth, number, bytes, list}
+use Rattle.colbase.specs.Cell.{Cell, truth, number}
 use Rattle.colbase.specs.Fits.{in_range}
 use Rattle.colbase.specs.LogicalType as t
 use Rattle.colbase.specs.Arrays.{Array, MustRead, constant_cell}

@@ -1,5 +1,5 @@
 -- Rows of several arguments. Each word counts the places of the arguments up from the one that is given.
-use Rattle.std.specs.Prelude.{◌≡◌, ℕ, zero, suc, ◌<◌, Bool, true, false, ◌&&◌, List, [], ◌∷◌, Option, None, Some, Result, Ok, Err, ⊤, ◌⊎◌, cond, nat_eq, min, ◌+◌, ◌-◌, ◌^◌}
+use Rattle.std.specs.Prelude.{◌≡◌, ℕ, suc, ◌<◌, Bool, true, ◌&&◌, List, [], ◌∷◌, Option, None, Some, Result, Ok, Err, ⊤, ◌⊎◌, cond, nat_eq, min, ◌+◌, ◌-◌, ◌^◌}
 use Rattle.colbase.specs.Cell.{Cell}
 use Rattle.colbase.specs.LogicalType.{LogicalType}
 use Rattle.colbase.specs.LogicalTypeOf.{logical_type}

@@ -1,5 +1,5 @@
 -- Two tuples side by side: the places of the second come after those of the first.
-use Rattle.std.specs.Prelude.{◌≡◌, ℕ, ◌-◌, Bool, true, false, nat_lt, Option, List, [], ◌∷◌, ◌++◌}
+use Rattle.std.specs.Prelude.{ℕ, ◌-◌, Bool, true, false, nat_lt, Option, List, [], ◌∷◌, ◌++◌}
 use Rattle.colbase.specs.Cell.{Cell}
 use Rattle.colbase.specs.Arrays.{Array}
 use Rattle.rowtypes.specs.Arguments.{ShowsConstant, ShowsRow}

@@ -1,6 +1,5 @@
-use Rattle.std.proofs.Common.{rules, ◌≡◌, ◌∙◌, ℕ, ◌<◌, length, get_or, map, take, Some, ap, sym, subst}
+use Rattle.std.proofs.Common.{◌≡◌, ◌∙◌, ℕ, ◌<◌, length, get_or, map, take, Some, ap, sym, subst}
 use Rattle.std.proofs.lemmas.List.{length-replicate}
-use Rattle.std.specs.Prelude.{replicate}
 use Rattle.colbase.specs.Arrays.{column, len, row}
 use Rattle.rowtypes.specs.Outputs.{full_column, StatesAnswer}
 use Rattle.rowtypes.proofs.Columns.{all-places, full-len, full-row}

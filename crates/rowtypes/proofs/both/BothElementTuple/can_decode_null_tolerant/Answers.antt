@@ -1,4 +1,4 @@
-use Rattle.std.proofs.Common.{◌≡◌, ℕ, ◌+◌, length, ◌++◌, ◌&&◌, true, false, sym, ap, ◌∙◌, subst, arith}
+use Rattle.std.proofs.Common.{◌≡◌, ◌+◌, length, ◌&&◌, true, false, sym, ap, ◌∙◌, subst, arith}
 use Rattle.rowtypes.specs.Rows.{AcceptsFrom, all_tolerant}
 use Rattle.rowtypes.specs.SideBySide.{side_by_side}
 use Rattle.rowtypes.proofs.Sides.{accepted_first, accepted_second, tolerant_joined}

@@ -1,4 +1,4 @@
-use Rattle.std.proofs.Common.{◌≡◌, ℕ, ◌+◌, ◌<◌, ◌^◌, length, ◌++◌, sym, ap, ◌∙◌, subst, arith, rules}
+use Rattle.std.proofs.Common.{◌≡◌, ◌+◌, ◌<◌, ◌^◌, length, sym, ap, ◌∙◌, subst, arith, rules}
 use Rattle.std.proofs.lemmas.Grind.{common_steps}
 use Rattle.rowtypes.specs.Rows.{AcceptsFrom, DecodeFails, ReadsAllFrom, placed}
 use Rattle.rowtypes.specs.SideBySide.{side_by_side, reads_side_by_side}

@@ -1,4 +1,4 @@
-use Rattle.std.proofs.Common.{rules, ◌≡◌, ◌∙◌, ℕ, ◌<◌, List, Bool, length, ap, sym, Some, false}
+use Rattle.std.proofs.Common.{rules, ◌≡◌, ◌∙◌, ℕ, ◌<◌, ap, Some}
 use Rattle.std.specs.Prelude.{replicate}
 use Rattle.bitlane.specs.Bits.{bit}
 use Rattle.colbase.specs.Cell.{Cell, truth}

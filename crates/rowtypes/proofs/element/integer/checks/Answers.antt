@@ -1,4 +1,3 @@
-use Rattle.std.proofs.Common.{◌≡◌, ℕ, ◌<◌}
 use Rattle.std.specs.Prelude.{IsTrue}
 use borrow.Author.Count.{below_more}
 use Rattle.colbase.specs.Fits.{in_range}

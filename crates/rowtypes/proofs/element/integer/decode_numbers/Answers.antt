@@ -1,5 +1,4 @@
-use Rattle.std.proofs.Common.{◌≡◌, ◌∙◌, ℕ, ◌<◌, sym, subst}
-use Rattle.colbase.specs.Arrays.{len}
+use Rattle.std.proofs.Common.{◌<◌, sym, subst}
 use Rattle.rowtypes.proofs.Numbers.{numbers-dense, numbers-read}
 use Rattle.rowtypes.proofs.element.integer.decode_numbers.Goals as goal
 

@@ -1,7 +1,7 @@
 use Rattle.std.proofs.Common.{rules, ◌≡◌, ◌∙◌, ℕ, ◌<◌, ap, sym, subst, Some, None}
 use Rattle.std.specs.Prelude.{replicate, slice_get}
 use Rattle.colbase.specs.Cell.{number}
-use Rattle.colbase.specs.Values.{number_at, count}
+use Rattle.colbase.specs.Values.{number_at}
 use Rattle.colbase.specs.Arrays.{len}
 use Rattle.colbase.specs.Parts.{values_of}
 use Rattle.rowtypes.specs.Elements.{shown_number}

@@ -1,4 +1,4 @@
-use Rattle.std.proofs.Common.{◌≡◌, ◌∙◌, ap, map, sym, refl, Some}
+use Rattle.std.proofs.Common.{◌≡◌, ap, map, Some}
 use Rattle.colbase.specs.declared.dtype.Nullability.TheVariants.{NonNullable}
 use Rattle.colbase.specs.declared.validity.Validity.TheVariants as v
 use Rattle.colbase.specs.Cell.{number}

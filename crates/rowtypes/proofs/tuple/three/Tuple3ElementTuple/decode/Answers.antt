@@ -1,4 +1,4 @@
-use Rattle.std.proofs.Common.{arith, rules, sym}
+use Rattle.std.proofs.Common.{arith, rules}
 use Rattle.rowtypes.specs.Arguments.{reads_three}
 use Rattle.rowtypes.specs.Rows.{DecodeFails}
 use Rattle.rowtypes.proofs.Lowest.{first_fails, second_fails, third_fails, three_read}

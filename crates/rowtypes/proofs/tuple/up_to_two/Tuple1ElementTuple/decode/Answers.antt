@@ -1,7 +1,7 @@
-use Rattle.std.proofs.Common.{arith, rules, sym}
+use Rattle.std.proofs.Common.{arith, rules}
 use Rattle.rowtypes.specs.Arguments.{reads_one}
 use Rattle.rowtypes.specs.Rows.{DecodeFails}
-use Rattle.rowtypes.proofs.Lowest.{first_fails, one_read}
+use Rattle.rowtypes.proofs.Lowest.{first_fails}
 use Rattle.rowtypes.proofs.tuple.up_to_two.Tuple1ElementTuple.decode.Goals as goal
 
 pub returns-in_err-first-clause-errors : goal.returns-in_err-first-clause-errors
