@@ -24,11 +24,12 @@ def run(example, **environment):
 
 
 def tried(example, number):
-    """The status of a run by the toolchain; it tells nothing of the output of a run that fails."""
+    """The statuses of a run by the toolchain's interpreter and by its checked build, and what the run wrote."""
     with open(example, "rb") as stdin:
         words = ["rt", "try", "--fail-alloc", str(number), "--", "run"]
-        said = subprocess.run(words, stdin=stdin, capture_output=True, cwd=FOLDER, text=True).stdout
-    return {line.rpartition("=")[2] for line in said.splitlines() if "ended status=" in line and line.startswith(("interpreter", "checked"))}
+        done = subprocess.run(words, stdin=stdin, capture_output=True, cwd=FOLDER, text=True)
+    told = [line for line in done.stderr.splitlines() if line.startswith(("interpreter:", "checked:"))]
+    return {line.rpartition("status=")[2] for line in told}, done.stdout
 
 
 def main():
@@ -45,8 +46,9 @@ def main():
             for number in range(1, allocations + 1):
                 runs += 1
                 if "--try" in sys.argv[1:]:
-                    statuses = tried(example, number)
-                    good, empty = statuses <= {"0", "4"} and len(statuses) == 1, statuses == {"4"}
+                    statuses, written = tried(example, number)
+                    empty = statuses == {"4"} and written == ""
+                    good = empty or (statuses == {"0"} and written == wanted.stdout.decode())
                 else:
                     done = run(example, LD_PRELOAD=library, FAIL_AT=str(number))
                     empty = done.returncode == 4 and done.stdout == b"" and done.stderr == b""
