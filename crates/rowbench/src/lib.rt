@@ -1,0 +1,31 @@
+//! The loops of this project for programs that measure them, which link this crate as a static library. `bench/README.md`
+//! says how.
+#![tactic(auto)]
+
+ghost use Rattle.std.specs.Prelude.{◌≡◌, length};
+
+mod bits;
+mod pairs;
+
+use bitlane::map_into;
+use pairs::Pairs;
+use std::alloc::Global;
+
+/// The sum of two numbers at each index, through `map_into`.
+#[unsafe(no_mangle)]
+pub extern "C" fn rowbench_map_into(xs: &[i64], ys: &[i64], out: &mut [i64])
+    requires equal { length xs.now ≡ length ys.now }
+    requires room { length out.old ≡ length xs.now }
+{
+    let pairs = Pairs::new(xs, ys);
+    map_into(&pairs, out, |pair: (i64, i64)| pair.0.wrapping_add(pair.1));
+}
+
+/// How many values are true in the conjunctions of two bit buffers of `rows` values, each joined anew in each round.
+#[unsafe(no_mangle)]
+pub extern "C" fn rowbench_and(alloc: Global, rows: usize, rounds: usize) -> usize {
+    match bits::joined_in_rounds(alloc, rows, rounds) {
+        Ok(count) => count,
+        Err(_) => 0,
+    }
+}
