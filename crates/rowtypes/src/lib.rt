@@ -9,6 +9,8 @@ mod fill_default;
 mod output;
 mod slice_rows;
 mod source;
+mod source_visitor;
+mod sources;
 #[cfg(test)]
 mod tests;
 mod tuple;
@@ -24,6 +26,7 @@ pub use fill_default::FillDefault;
 pub use output::{ColumnValue, OutputBuffer, OutputElement, OutputSlots, build_from};
 pub use slice_rows::{Preinitialized, SliceRows};
 pub use source::ArgTupleSource;
+pub use source_visitor::SourceVisitor;
 pub use tuple::{ElementTuple, IndexedElementTuple};
 pub use tuple_map::map_rows;
 pub use view_len::ViewLen;
