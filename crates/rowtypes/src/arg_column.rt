@@ -6,6 +6,8 @@ ghost use Rattle.rowtypes.specs.Arguments.{arg_length, arg_shows, arg_value, kno
 
 use crate::batch::batch_const;
 use crate::element::InputElement;
+use crate::source_visitor::SourceVisitor;
+use crate::sources::{ColumnRows, Repeated, Values};
 use colbase::{ArrayRef, ExecutionCtx, Fault, Res};
 
 /// An argument as it is read: one value for all rows, or a decoded column.
@@ -57,6 +59,26 @@ impl<T: InputElement> ArgColumn<T> {
         match self {
             ArgColumn::Value(constant) => Some(T::get_constant(constant)),
             ArgColumn::Column(_) => None,
+        }
+    }
+
+    /// Runs a loop over this many rows, told before the loop whether the argument is one value or a column.
+    pub(crate) fn visit<V: SourceVisitor<T::Elem>>(&self, rows: usize, visitor: V) -> V::Output
+        requires ready { V.ready visitor }
+        requires rows { V.rows visitor ≡ rows }
+        requires length { is_length rows (arg_length T.count self.now) ≡ true }
+        requires items { (i : ℕ) (e : T.Elem) → i < rows → T.cell e ≡ arg_shows T.shows T.constant_cell self.now i → V.may_be visitor i e }
+        ensures { V.gives visitor result }
+    {
+        match self {
+            ArgColumn::Value(constant) => {
+                let value = T::get_constant(constant);
+                visitor.visit(Repeated::<T> { value, rows })
+            }
+            ArgColumn::Column(column) => match T::values(column) {
+                Some(values) => visitor.visit(Values::<T> { values }),
+                None => visitor.visit(ColumnRows::<T> { column }),
+            },
         }
     }
 

@@ -4,52 +4,27 @@ ghost use Rattle.std.specs.Prelude.{◌≡◌};
 use crate::element::InputElement;
 use bitlane::IndexedSource;
 
-/// The values of a slice.
+/// The values of a decoded column that lie side by side.
 #[derive(Drop)]
-pub(crate) struct Values<'a, T> {
-    pub values: &'a [T],
+pub(crate) struct Values<'a, T: InputElement> {
+    pub values: &'a [T::Elem],
 }
 
-impl<'a, T: Copy + Drop> IndexedSource for Values<'a, T> {
+impl<'a, T: InputElement> IndexedSource for Values<'a, T> {
     ghost use Rattle.std.specs.Prelude.{◌≡◌, length, slice_index_or};
 
-    type Item = T;
+    type Item = T::Elem;
 
     ghost count = { λ s. length s.values.now };
 
-    ghost item_at = { λ s i e. (d : T) → slice_index_or s.values.now i d ≡ e };
+    ghost item_at = { λ s i e. (d : T.Elem) → T.cell e ≡ T.cell (slice_index_or s.values.now i d) };
 
     fn len(&self) -> usize {
         self.values.len()
     }
 
-    fn get(&self, index: usize) -> T {
-        self.values[index]
-    }
-}
-
-/// One value in each row.
-#[derive(Drop)]
-pub(crate) struct Repeated<T> {
-    pub value: T,
-    pub rows: usize,
-}
-
-impl<T: Copy + Drop> IndexedSource for Repeated<T> {
-    ghost use Rattle.std.specs.Prelude.{◌≡◌};
-
-    type Item = T;
-
-    ghost count = { λ s. s.rows };
-
-    ghost item_at = { λ s i e. e ≡ s.value };
-
-    fn len(&self) -> usize {
-        self.rows
-    }
-
-    fn get(&self, _index: usize) -> T {
-        self.value
+    fn get(&self, index: usize) -> T::Elem {
+        T::again(&self.values[index])
     }
 }
 
@@ -77,28 +52,28 @@ impl<'a, T: InputElement> IndexedSource for ColumnRows<'a, T> {
     }
 }
 
-/// A decoded constant in each row.
+/// One value in each row.
 #[derive(Drop)]
-pub(crate) struct ConstantRows<'a, T: InputElement> {
-    pub constant: &'a T::Constant,
+pub(crate) struct Repeated<T: InputElement> {
+    pub value: T::Elem,
     pub rows: usize,
 }
 
-impl<'a, T: InputElement> IndexedSource for ConstantRows<'a, T> {
+impl<T: InputElement> IndexedSource for Repeated<T> {
     ghost use Rattle.std.specs.Prelude.{◌≡◌};
 
     type Item = T::Elem;
 
     ghost count = { λ s. s.rows };
 
-    ghost item_at = { λ s i e. T.cell e ≡ T.constant_cell s.constant.now };
+    ghost item_at = { λ s i e. T.cell e ≡ T.cell s.value };
 
     fn len(&self) -> usize {
         self.rows
     }
 
     fn get(&self, _index: usize) -> T::Elem {
-        T::get_constant(self.constant)
+        T::again(&self.value)
     }
 }
 
