@@ -95,8 +95,6 @@ impl<A: ElementTuple, B: ElementTuple> ElementTuple for Both<A, B> {
     }
 }
 
-impl<A: IndexedElementTuple, B: IndexedElementTuple> IndexedElementTuple for Both<A, B> {}
-
 // The types of the first arguments and those of the second.
 fn split_types(types: &[DType], first: usize, second: usize) -> (&[DType], &[DType])
     requires { length types.now ≡ min (first + second) (2 ^ 64 - 1) }

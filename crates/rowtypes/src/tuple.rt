@@ -3,6 +3,7 @@ ghost use Rattle.std.specs.Prelude.{◌≡◌, ℕ, Bool, true, ◌&&◌, List, 
 use crate::element::InputElement;
 use colbase::{ArrayRef, DType, ExecutionCtx, Res};
 
+mod beside;
 mod four;
 mod indexed;
 mod three;
