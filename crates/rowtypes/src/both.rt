@@ -1,7 +1,7 @@
 ghost use Rattle.std.specs.Prelude.{◌≡◌, ℕ, ◌+◌, Bool, true, ◌&&◌, List, ◌++◌, length, min, ◌-◌, ◌^◌};
 
 use crate::arg_column::at_place;
-use crate::tuple::{ElementTuple, IndexedElementTuple};
+use crate::tuple::ElementTuple;
 use colbase::{ArrayRef, DType, ExecutionCtx, Res};
 use std::marker::PhantomData;
 
@@ -80,6 +80,24 @@ impl<A: ElementTuple, B: ElementTuple> ElementTuple for Both<A, B> {
     fn can_decode_null_tolerant(columns: &[ArrayRef]) -> bool {
         let (first, second) = split_columns(columns, A::ARITY, B::ARITY);
         A::can_decode_null_tolerant(first) && B::can_decode_null_tolerant(second)
+    }
+
+    fn decode_null_tolerant(
+        columns: &[ArrayRef],
+        ctx: ExecutionCtx,
+    ) -> Res<Option<(A::Columns, B::Columns)>> {
+        if !<Both<A, B> as ElementTuple>::can_decode_null_tolerant(columns) {
+            return Ok(None);
+        }
+        let (first, second) = split_columns(columns, A::ARITY, B::ARITY);
+        let Some(decoded) = A::decode_null_tolerant(first, ctx)? else {
+            return Ok(None);
+        };
+        match B::decode_null_tolerant(second, ctx) {
+            Ok(Some(more)) => Ok(Some((decoded, more))),
+            Ok(None) => Ok(None),
+            Err(fault) => Err(at_place(fault, A::ARITY)),
+        }
     }
 
     fn get(columns: &(A::Columns, B::Columns), index: usize) -> (A::Elems, B::Elems) {

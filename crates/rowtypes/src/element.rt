@@ -84,6 +84,7 @@ pub trait InputElement {
     /// The same column as that of [`InputElement::decode`], where the array can be decoded with its nulls.
     fn decode_null_tolerant(array: &ArrayRef, ctx: ExecutionCtx) -> Res<Option<Self::Column>>
         requires { accepts (dtype array.now) ≡ true }
+        ensures declined { null_tolerant array.now ≡ false → result ≡ Ok None }
         ensures told { IfOk result (λ o. is_some o ≡ null_tolerant array.now) }
         ensures len { IfOk result (λ o. IfSome o (λ c. count c ≡ len array.now)) }
         ensures same { IfOk result (λ o. IfSome o (λ c. (i : ℕ) → i < len array.now → shows c i ≡ shown array.now i)) }

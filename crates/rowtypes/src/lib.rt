@@ -4,6 +4,7 @@
 mod arg_column;
 mod batch;
 mod both;
+mod both_rows;
 mod element;
 mod fill_default;
 mod output;
