@@ -1,0 +1,41 @@
+-- The plan of a batch.
+use Rattle.std.specs.Prelude.{◌≡◌, ℕ, Option, None, Some, Result, MatchResult, ◌⊎◌, List}
+use Rattle.colbase.specs.declared.fault.Fault.{Fault}
+use Rattle.colbase.specs.declared.fault.Fault.TheVariants.{Dtype, OutputType, Memory}
+use Rattle.colbase.specs.LogicalType.{LogicalType}
+use Rattle.colbase.specs.LogicalTypeOf.{logical_type}
+use Rattle.rowtypes.specs.Rows.{first_refused}
+use Rattle.rowplan.specs.declared.batch_plan.BatchPlan.{BatchPlan}
+use Rattle.rowplan.specs.declared.batch_plan.RowPolicy.{RowPolicy}
+use Rattle.rowplan.specs.Labels.{shown_as}
+use Rattle.rowplan.specs.Outputs.{InOrder, output_type}
+
+-- the type of what is stored, that under which it is shown, and the rows that are run
+pub record Plan : Type 0 where
+  pub storage : LogicalType
+  pub output : LogicalType
+  pub policy : RowPolicy
+
+abbrev pub plan_of : BatchPlan → Plan
+plan_of b = record { storage = logical_type b.storage; output = shown_as b.label (logical_type b.storage); policy = b.policy }
+
+-- a plan of these types, which are in order; else `OutputType`
+abbrev pub Plans : Result BatchPlan Fault → LogicalType → Option LogicalType → RowPolicy → Type 0
+Plans r storage label policy = MatchResult r
+    (λ p. InOrder (Some storage) label × (plan_of p ≡ record { storage = storage; output = output_type storage label; policy = policy }))
+    (λ e. (e ≡ OutputType) × (InOrder (Some storage) label → ⊥))
+
+-- the plan of a call is of the function's output and policy, where the output is in order
+pub record PlanOf (storage label : Option LogicalType) (policy : RowPolicy) (p : BatchPlan) : Type 0 where
+  pub in_order : InOrder storage label
+  pub stored : storage ≡ Some (logical_type p.storage)
+  pub output : (plan_of p).output ≡ output_type (logical_type p.storage) label
+  pub rows : p.policy ≡ policy
+
+-- why a call has no plan: want of memory, the first type that its argument does not accept, or else an output that is not in order
+abbrev pub NoPlan : Option ℕ → Option LogicalType → Option LogicalType → Fault → Type 0
+NoPlan refused storage label e = (e ≡ Memory) ⊎ (((k : ℕ) × (refused ≡ Some k) × (e ≡ Dtype k)) ⊎ ((refused ≡ None) × (e ≡ OutputType) × (InOrder storage label → ⊥)))
+
+-- the answer of a planner
+abbrev pub Planned : Result BatchPlan Fault → Option ℕ → Option LogicalType → Option LogicalType → RowPolicy → Type 0
+Planned r refused storage label policy = MatchResult r (λ p. (refused ≡ None) × PlanOf storage label policy p) (NoPlan refused storage label)

@@ -1,0 +1,33 @@
+ghost use Rattle.std.specs.Prelude.{◌≡◌};
+ghost use Rattle.colbase.specs.LogicalType.{nullability_of};
+ghost use Rattle.colbase.specs.LogicalTypeOf.{logical_type};
+ghost use Rattle.colbase.specs.declared.dtype.Nullability.TheVariants.{NonNullable};
+ghost use Rattle.rowplan.specs.Labels.{label_storage};
+
+use colbase::{DType, ExtDType};
+
+mod calls;
+mod labels;
+
+pub(crate) use labels::is_any_nullable;
+
+/// Which rows a visit may run over.
+#[derive(Clone, Copy, Debug, PartialEq, Eq)]
+pub enum RowPolicy {
+    /// All rows, on what the arguments show under nulls too.
+    Dense,
+    /// As `Dense`; where the joined evidence isn't accepted, the rows without a null are run again alone.
+    DenseWithRetry,
+    /// The rows without a null alone.
+    ValidOnly,
+}
+
+/// The plan of a batch: which type is stored, under which type it is shown, and which rows are run.
+#[derive(Drop)]
+pub struct BatchPlan {
+    storage: DType,
+    label: Option<ExtDType>,
+    policy: RowPolicy,
+    ghost not_nullable: { nullability_of (logical_type storage) ≡ NonNullable },
+    ghost over: { label_storage label (logical_type storage) ≡ logical_type storage },
+}

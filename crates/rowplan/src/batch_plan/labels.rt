@@ -1,0 +1,43 @@
+ghost use Rattle.std.specs.Prelude.{◌≡◌, Some, IfOk, IfErr};
+ghost use Rattle.colbase.specs.LogicalTypeOf.{logical_type};
+ghost use Rattle.rowtypes.specs.Rows.{logical_types};
+ghost use Rattle.rowplan.specs.Labels.{label_storage, shown_as};
+ghost use Rattle.rowplan.specs.Outputs.{LabelFits, any_nullable};
+
+use colbase::{DType, ExtDType, Fault, Res};
+
+// The label that a declared type is: none where it is the storage type, and else an extension over exactly it.
+pub(super) fn own_label(storage: &DType, declared: &DType) -> Res<Option<ExtDType>>
+    ensures over { IfOk result (λ l. label_storage l (logical_type storage.now) ≡ logical_type storage.now) }
+    ensures shown { IfOk result (λ l. shown_as l (logical_type storage.now) ≡ logical_type declared.now) }
+    ensures fits { IfOk result (λ l. LabelFits (logical_type storage.now) (Some (logical_type declared.now))) }
+    ensures errors { IfErr result (λ e. (e ≡ Fault.OutputType) × (LabelFits (logical_type storage.now) (Some (logical_type declared.now)) → ⊥)) }
+{
+    if declared.is_nullable() {
+        return Err(Fault::OutputType);
+    }
+    if declared.same(storage) {
+        return Ok(None);
+    }
+    match declared {
+        DType::Extension(label) => {
+            if label.storage.get().same(storage) {
+                return Ok(Some(label.share()));
+            }
+            Err(Fault::OutputType)
+        }
+        _ => Err(Fault::OutputType),
+    }
+}
+
+/// Whether some type is nullable.
+pub(crate) fn is_any_nullable(types: &[DType]) -> bool
+    ensures { result ≡ any_nullable (logical_types types.now) }
+{
+    for dtype in types {
+        if dtype.is_nullable() {
+            return true;
+        }
+    }
+    false
+}

@@ -1,0 +1,42 @@
+ghost use Rattle.std.specs.Prelude.{◌≡◌, ◌⊎◌, true, false, length, Option, IfOk, IfErr, IfSome, Err, is_some};
+
+use crate::row_spec::RowSpec;
+use crate::visitor::RowVisitor;
+use colbase::{DType, ExecutionCtx, Fault, Res};
+
+/// A row function: its name, its options as bytes, and the visit that it selects.
+pub trait RowFn: RowSpec + Sized {
+    ghost use Rattle.colbase.specs.declared.fault.Fault.TheVariants.{Memory, Metadata, NotSerializable, Refused};
+    ghost use Rattle.rowtypes.specs.Rows.{logical_types};
+
+    fn id(&self) -> &'static str;
+
+    /// The options as bytes. None for a function whose options have no form.
+    fn serialize(&self, options: &Self::Options, ctx: ExecutionCtx) -> Res<Option<Vec<u8>>>
+        ensures none { IfOk result (λ o. is_some o ≡ Self.has_form) }
+        ensures states { IfOk result (λ o. IfSome o (λ bytes. Self.states_options bytes.items options.now)) }
+        ensures errors { IfErr result (λ e. e ≡ Memory) };
+
+    /// The options that the bytes state. `NotSerializable` where options have no form, and `Metadata` where the bytes
+    /// state none.
+    fn deserialize(&self, metadata: &[u8], ctx: ExecutionCtx) -> Res<Self::Options>
+        ensures form { IfOk result (λ o. Self.has_form ≡ true) }
+        ensures states { IfOk result (λ o. Self.states_options metadata.now o) }
+        ensures errors { IfErr result (λ e. (e ≡ Memory) ⊎ (((e ≡ NotSerializable) × (Self.has_form ≡ false)) ⊎ ((e ≡ Metadata) × (Self.has_form ≡ true) × ((o : Self.Options) → Self.states_options metadata.now o → ⊥)))) };
+
+    /// Hands the visitor the visit for these options and types, and passes its answer on. `Refused` exactly where the
+    /// function doesn't take them.
+    fn dispatch<V: RowVisitor<Self>>(
+        &self,
+        options: &Self::Options,
+        types: &[DType],
+        visitor: V,
+        ctx: ExecutionCtx,
+    ) -> Res<V::VisitResult>
+        requires arity { length types.now ≡ Self.arity }
+        requires options { V.options visitor ≡ options.now }
+        requires types { V.types visitor ≡ logical_types types.now }
+        requires ready { V.ready visitor }
+        ensures refused { Self.accepts options.now (logical_types types.now) ≡ false → result ≡ Err Refused }
+        ensures gives { Self.accepts options.now (logical_types types.now) ≡ true → (result ≡ Err Memory) ⊎ V.gives visitor result };
+}

@@ -1,0 +1,73 @@
+ghost use Rattle.std.specs.Prelude.{◌≡◌};
+
+use crate::batch_plan::{BatchPlan, RowPolicy};
+use crate::row_spec::RowSpec;
+use crate::visitor::RowVisitor;
+use colbase::{DType, ExecutionCtx, Res};
+use rowtypes::{ElementTuple, IndexedElementTuple, OutputElement};
+
+/// The visitor that plans a batch and runs no callback.
+#[derive(Drop)]
+pub struct BatchPlanner<'a, F: RowSpec> {
+    options: &'a F::Options,
+    types: &'a [DType],
+    label: Option<DType>,
+}
+
+impl<'a, F: RowSpec> BatchPlanner<'a, F> {
+    /// A planner for a call with these options and argument types.
+    pub fn new(
+        options: &'a F::Options,
+        types: &'a [DType],
+        _ctx: ExecutionCtx,
+    ) -> BatchPlanner<'a, F>
+        ensures options { result.options.now ≡ options.now }
+        ensures types { result.types.now ≡ types.now }
+    {
+        BatchPlanner {
+            options,
+            types,
+            label: None,
+        }
+    }
+}
+
+impl<'a, F: RowSpec> RowVisitor<F> for BatchPlanner<'a, F> {
+    ghost use Rattle.std.specs.Prelude.{⊤, option_map};
+    ghost use Rattle.colbase.specs.LogicalTypeOf.{logical_type};
+    ghost use Rattle.rowtypes.specs.Rows.{first_refused, logical_types};
+    ghost use Rattle.rowplan.specs.Plans.{Planned};
+
+    type VisitResult = BatchPlan;
+
+    ghost options = { λ s. s.options.now };
+
+    ghost types = { λ s. logical_types s.types.now };
+
+    ghost label = { λ s. option_map logical_type s.label };
+
+    ghost ready = { λ s. ⊤ };
+
+    ghost gives = { λ s r. Planned r (first_refused (F.fits s.options.now (logical_types s.types.now)) 0 (logical_types s.types.now)) (F.output s.options.now (logical_types s.types.now)).storage (F.output s.options.now (logical_types s.types.now)).label (F.policy s.options.now (logical_types s.types.now)) };
+
+    fn with_output_dtype(self, dtype: DType) -> BatchPlanner<'a, F> {
+        BatchPlanner {
+            options: self.options,
+            types: self.types,
+            label: Some(dtype),
+        }
+    }
+
+    fn visit<Args: IndexedElementTuple, Out: OutputElement, A: Fn(Args::Elems) -> Out>(
+        self,
+        _apply: A,
+    ) -> Res<BatchPlan> {
+        Args::validate(self.types)?;
+        let policy = if Args::DENSE_SAFE && Args::DECODE_INFALLIBLE {
+            RowPolicy::Dense
+        } else {
+            RowPolicy::ValidOnly
+        };
+        BatchPlan::new(Out::element_dtype(), self.label, policy)
+    }
+}

@@ -1,0 +1,80 @@
+ghost use Rattle.std.specs.Prelude.{◌≡◌, false, true, Some, Option, List, Result};
+
+use crate::row_spec::RowSpec;
+use colbase::{DType, Res};
+use rowtypes::{IndexedElementTuple, OutputElement};
+
+/// Who is handed the callbacks of a row function.
+///
+/// A visitor knows the options and the types of its call. Each visit asks that the elements, the output and the policy
+/// are those of the function's meanings, and that the callback agrees with the meaning of a row wherever the elements read
+/// its cells. A visit tests the argument types before the output, and the storage type before the label.
+pub trait RowVisitor<F: RowSpec>: Sized + Drop {
+    ghost use Rattle.colbase.specs.LogicalType.{LogicalType};
+    ghost use Rattle.std.specs.Prelude.{Bool};
+    ghost use Rattle.colbase.specs.Cell.{truth};
+    ghost use Rattle.colbase.specs.LogicalType.{bool as bool_type};
+    ghost use Rattle.colbase.specs.declared.dtype.Nullability.TheVariants.{NonNullable as not_nullable};
+    ghost use Rattle.colbase.specs.LogicalTypeOf.{logical_type};
+    ghost use Rattle.colbase.specs.declared.fault.Fault.{Fault};
+    ghost use Rattle.rowtypes.specs.Rows.{ReadsFrom};
+    ghost use Rattle.rowplan.specs.Outcomes.{done};
+    ghost use Rattle.rowplan.specs.Policies.{owned_policy};
+    ghost use Rattle.rowplan.specs.Visits.{SelectsElements, SelectsOutput};
+
+    type VisitResult: Drop;
+
+    ghost options: { Self → F.Options };
+
+    ghost types: { Self → List LogicalType };
+
+    // The type that was declared for the output.
+    ghost label: { Self → Option LogicalType };
+
+    // What the maker of the visitor has seen to.
+    ghost ready: { Self → Type 0 };
+
+    // The answers that the visitor may give.
+    ghost gives: { Self → Result Self.VisitResult Fault → Type 0 };
+
+    /// Declares the type of the output. A later call replaces an earlier one.
+    fn with_output_dtype(self, dtype: DType) -> Self
+        ensures options { options result ≡ options self }
+        ensures types { types result ≡ types self }
+        ensures label { label result ≡ Some (logical_type dtype) }
+        ensures ready { ready self → ready result }
+        ensures gives { (r : Result Self.VisitResult Fault) → gives result r → gives self r };
+
+    /// Runs a callback that gives a value for each row.
+    fn visit<Args: IndexedElementTuple, Out: OutputElement, A: Fn(Args::Elems) -> Out>(
+        self,
+        apply: A,
+    ) -> Res<Self::VisitResult>
+        requires ready { ready self }
+        requires elements { SelectsElements Args.ARITY F.arity Args.accepts (F.fits (options self) (types self)) Args.reads (F.reads (options self) (types self)) Args.shown (F.shown (options self) (types self)) (types self) }
+        requires output { SelectsOutput Out.element_type (Out.states Out.placeholder) (F.output (options self) (types self)) (label self) (F.placeholder (options self) (types self)) (F.room (options self) (types self)) }
+        requires policy { F.policy (options self) (types self) ≡ owned_policy Args.DENSE_SAFE Args.DECODE_INFALLIBLE }
+        requires undeferred { F.deferred (options self) (types self) ≡ false }
+        requires callable { (e : Args.Elems) → ReadsFrom Args.reads 0 (Args.cells e) → A.pre apply e }
+        requires agrees { (e : Args.Elems) (r : Out) → ReadsFrom Args.reads 0 (Args.cells e) → A.post apply e r → F.meaning (options self) (types self) (Args.cells e) ≡ done (Out.states r) F.Evidence.neutral }
+        ensures { gives self result };
+
+    /// Runs a callback that gives a truth value for each row. `multiversioned` changes no result.
+    fn visit_bool<Args: IndexedElementTuple, A: Fn(Args::Elems) -> bool>(
+        self,
+        multiversioned: bool,
+        apply: A,
+    ) -> Res<Self::VisitResult>
+        requires ready { ready self }
+        requires elements { SelectsElements Args.ARITY F.arity Args.accepts (F.fits (options self) (types self)) Args.reads (F.reads (options self) (types self)) Args.shown (F.shown (options self) (types self)) (types self) }
+        requires output { SelectsOutput (bool_type not_nullable) (truth false) (F.output (options self) (types self)) (label self) (F.placeholder (options self) (types self)) (F.room (options self) (types self)) }
+        requires policy { F.policy (options self) (types self) ≡ owned_policy Args.DENSE_SAFE Args.DECODE_INFALLIBLE }
+        requires undeferred { F.deferred (options self) (types self) ≡ false }
+        requires callable { (e : Args.Elems) → ReadsFrom Args.reads 0 (Args.cells e) → A.pre apply e }
+        requires agrees { (e : Args.Elems) (r : Bool) → ReadsFrom Args.reads 0 (Args.cells e) → A.post apply e r → F.meaning (options self) (types self) (Args.cells e) ≡ done (truth r) F.Evidence.neutral }
+        ensures { gives self result }
+    {
+        let _ = multiversioned;
+        self.visit::<Args, bool, A>(apply)
+    }
+}
