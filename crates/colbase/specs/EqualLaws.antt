@@ -1,11 +1,10 @@
 -- The tests of equality decide equality, so they are equivalences, and what is equal is hashed alike.
-use Rattle.std.specs.Prelude.{ℕ, ◌==◌, Bool, true, false, ◌≡◌, ◌&&◌, List, Option, Some, None, refl}
+use Rattle.std.specs.Prelude.{ℕ, ◌==◌, Bool, true, ◌≡◌, ◌&&◌, List, Option, Some, None, refl}
 use Rattle.std.proofs.Common.{ap}
 use Rattle.std.specs.Bool.{Decides}
 use Rattle.std.specs.Option.{option_eq}
 use Rattle.std.specs.Cmp.{IsEquivalence, decided, on_equiv, and_equiv, booleans_Decides, signed_Decides, unsigned_Decides}
 use Rattle.std.specs.Cmp.Lexicographic.{bytes_decides, pointwise}
-use Rattle.std.specs.Hash.{Alike, same_Alike, on_Alike, first_alike}
 use Rattle.std.proofs.lemmas.Bool.Decides.{Decides-and}
 use Rattle.colbase.specs.declared.dtype.PType.{PType}
 use Rattle.colbase.specs.declared.dtype.PType.TheVariants.{I8, I16, I32, I64, U8, U16, U32, U64}

@@ -1,4 +1,4 @@
-use Rattle.std.proofs.Common.{◌≡◌, ◌∙◌, ap, sym, arith, map}
+use Rattle.std.proofs.Common.{◌∙◌, ap, sym}
 use Rattle.std.specs.Prelude.{option_map}
 use Rattle.colbase.specs.CellOf.{cell_of}
 use Rattle.colbase.proofs.EqualCells.{differ_at, values_same, lists_alike, some_cell}

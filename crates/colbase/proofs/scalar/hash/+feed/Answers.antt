@@ -1,4 +1,4 @@
-use Rattle.std.proofs.Common.{◌∙◌, ap, sym, arith}
+use Rattle.std.proofs.Common.{◌∙◌, arith}
 use Rattle.colbase.proofs.EqualCells.{fed_list, fed_none, fed_one, fed_some, fed_value}
 use Rattle.colbase.proofs.scalar.hash.+feed.Goals as goal
 use Rattle.colbase.proofs.scalar.hash.+feed.Goals.{feed_list-in-None, feed_list-in-Some}
