@@ -1,4 +1,5 @@
 pub mod Cut
+pub mod EqualCells
 pub mod HiddenRows
 pub mod Lowest
 pub mod Masks

@@ -11,6 +11,7 @@ mod fault;
 mod mask;
 mod name;
 mod native;
+mod options;
 mod scalar;
 #[cfg(test)]
 mod tests;
@@ -29,6 +30,7 @@ pub use fault::{Fault, LayoutFault, PlanDifference, Res, RowError, RowFault};
 pub use mask::Mask;
 pub use name::Name;
 pub use native::NativeInt;
+pub use options::EmptyOptions;
 pub use scalar::{Scalar, ScalarValue};
 pub use validity::{Validity, ValidityKind};
 pub use values::PrimitiveValues;

@@ -1,4 +1,7 @@
 // Worked values. The contracts say the rest.
+mod scalars;
+mod types;
+
 use crate::{
     Buffer, DType, ExecutionArgs, ExecutionCtx, Fault, LayoutFault, Name, NativeInt, Nullability,
     PType, PrimitiveArray, Scalar, ScalarValue, Validity, ValidityKind,
