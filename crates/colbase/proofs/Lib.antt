@@ -1,5 +1,6 @@
 pub mod Cut
 pub mod HiddenRows
+pub mod KeptRows
 pub mod Lowest
 pub mod Masks
 pub mod Nullable

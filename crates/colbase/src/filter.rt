@@ -1,0 +1,121 @@
+// The values that a mask selects, one pass for each buffer.
+ghost use Rattle.std.specs.Prelude.{◌≡◌, length, IfOk, IfErr};
+ghost use Rattle.colbase.specs.Keep.{keep, keep_validity, keep_values};
+ghost use Rattle.colbase.specs.Valid.{Covers};
+ghost use Rattle.colbase.specs.Values.{count};
+
+use crate::buffer::Buffer;
+use crate::ctx::ExecutionCtx;
+use crate::fault::{Fault, Res};
+use crate::validity::Validity;
+use crate::values::PrimitiveValues;
+use bitlane::BitBuffer;
+use std::alloc::{AllocError, Global};
+
+impl Validity {
+    /// The validity of the rows where `bits` is true, which are `trues` in number.
+    pub(crate) fn filter(&self, bits: &BitBuffer, trues: usize, ctx: ExecutionCtx) -> Res<Validity>
+        requires { Covers self.now (length bits.now) }
+        ensures kept { IfOk result (λ w. w ≡ keep_validity bits.now self.now) }
+        ensures errors { IfErr result (λ e. e ≡ Fault.Memory) }
+    {
+        match self {
+            Validity::NonNullable => Ok(Validity::NonNullable),
+            Validity::AllValid => Ok(Validity::AllValid),
+            Validity::AllInvalid => Ok(Validity::AllInvalid),
+            Validity::Array(valid) => Ok(Validity::Array(filter_bits(valid, bits, trues, ctx)?)),
+        }
+    }
+}
+
+impl PrimitiveValues {
+    /// The numbers where `bits` is true, which are `trues` in number.
+    pub(crate) fn filter(
+        &self,
+        bits: &BitBuffer,
+        trues: usize,
+        ctx: ExecutionCtx,
+    ) -> Res<PrimitiveValues>
+        requires { length bits.now ≡ count self.now }
+        ensures kept { IfOk result (λ x. x ≡ keep_values bits.now self.now) }
+        ensures errors { IfErr result (λ e. e ≡ Fault.Memory) }
+    {
+        match self {
+            PrimitiveValues::I8(b) => Ok(PrimitiveValues::I8(filter_buffer(b, bits, trues, ctx)?)),
+            PrimitiveValues::I16(b) => Ok(PrimitiveValues::I16(filter_buffer(b, bits, trues, ctx)?)),
+            PrimitiveValues::I32(b) => Ok(PrimitiveValues::I32(filter_buffer(b, bits, trues, ctx)?)),
+            PrimitiveValues::I64(b) => Ok(PrimitiveValues::I64(filter_buffer(b, bits, trues, ctx)?)),
+            PrimitiveValues::U8(b) => Ok(PrimitiveValues::U8(filter_buffer(b, bits, trues, ctx)?)),
+            PrimitiveValues::U16(b) => Ok(PrimitiveValues::U16(filter_buffer(b, bits, trues, ctx)?)),
+            PrimitiveValues::U32(b) => Ok(PrimitiveValues::U32(filter_buffer(b, bits, trues, ctx)?)),
+            PrimitiveValues::U64(b) => Ok(PrimitiveValues::U64(filter_buffer(b, bits, trues, ctx)?)),
+        }
+    }
+}
+
+/// The truth values where `bits` is true, which are `trues` in number.
+pub(crate) fn filter_bits(
+    values: &BitBuffer,
+    bits: &BitBuffer,
+    trues: usize,
+    ctx: ExecutionCtx,
+) -> Res<BitBuffer>
+    requires { length bits.now ≡ length values.now }
+    ensures kept { IfOk result (λ b. b ≡ keep bits.now values.now) }
+    ensures errors { IfErr result (λ e. e ≡ Fault.Memory) }
+{
+    let kept = selected_bits(values, bits, trues, ctx.alloc())?;
+    Ok(BitBuffer::from_vec(ctx.alloc(), kept)?)
+}
+
+// The values where `bits` is true, in a buffer of their own.
+fn filter_buffer<T: Copy + Drop>(
+    values: &Buffer<T>,
+    bits: &BitBuffer,
+    trues: usize,
+    ctx: ExecutionCtx,
+) -> Res<Buffer<T>>
+    requires { length bits.now ≡ length values.now }
+    ensures kept { IfOk result (λ b. b ≡ keep bits.now values.now) }
+    ensures errors { IfErr result (λ e. e ≡ Fault.Memory) }
+{
+    let kept = selected_items(values.as_slice(), bits, trues, ctx.alloc())?;
+    Buffer::from_vec(kept, ctx)
+}
+
+// The room for all of them is taken once.
+fn selected_items<T: Copy + Drop>(
+    items: &[T],
+    bits: &BitBuffer,
+    trues: usize,
+    alloc: Global,
+) -> Result<Vec<T>, AllocError>
+    requires { length bits.now ≡ length items.now }
+    ensures { IfOk result (λ v. v.items ≡ keep bits.now items.now) }
+{
+    let mut kept = Vec::with_capacity(alloc, trues)?;
+    for i in 0..items.len() {
+        if bits.value(i) {
+            kept.push(items[i])?;
+        }
+    }
+    Ok(kept)
+}
+
+fn selected_bits(
+    values: &BitBuffer,
+    bits: &BitBuffer,
+    trues: usize,
+    alloc: Global,
+) -> Result<Vec<bool>, AllocError>
+    requires { length bits.now ≡ length values.now }
+    ensures { IfOk result (λ v. v.items ≡ keep bits.now values.now) }
+{
+    let mut kept = Vec::with_capacity(alloc, trues)?;
+    for i in 0..values.len() {
+        if bits.value(i) {
+            kept.push(values.value(i))?;
+        }
+    }
+    Ok(kept)
+}
