@@ -1,12 +1,11 @@
 -- What filtering an array does to its rows, its payload and its type.
-use Rattle.std.proofs.Common.{◌≡◌, ◌∙◌, ℕ, zero, suc, ◌+◌, ◌<◌, ◌≤◌, Bool, true, false, List, [], ◌∷◌, ◌++◌, length, take, get_or, Option, Some, None, refl, ap, sym, subst, arith, add-one, slice_range, inl, inr}
+use Rattle.std.proofs.Common.{◌≡◌, ◌∙◌, ℕ, zero, suc, ◌<◌, Bool, true, false, List, [], ◌∷◌, length, get_or, Option, Some, None, refl, ap, sym, subst, arith, slice_range, inl, inr}
 use Rattle.std.specs.Prelude.{count_by, pos, option_map, IsSome, Result, Ok, Err, IfOk}
 use Rattle.bitlane.specs.Bits.{tabulate}
 use Rattle.bitlane.proofs.Tables.{length-tabulate}
 use Rattle.colbase.specs.Cell.{Cell, truth, number}
 use Rattle.colbase.specs.CellOf.{cell_of}
 use Rattle.colbase.specs.LogicalType as types
-use Rattle.colbase.specs.LogicalTypeOf.{logical_type}
 use Rattle.colbase.specs.declared.dtype.ExtDType.{ExtDType}
 use Rattle.colbase.specs.declared.scalar.Scalar.{Scalar}
 use Rattle.colbase.specs.declared.validity.Validity.{Validity}
@@ -67,22 +66,6 @@ keep-none : {X : Type 0} (n : ℕ) (xs : List X) → keep (tabulate (λ i. false
 keep-none zero xs = refl
 keep-none (suc n) [] = refl
 keep-none (suc n) (x ∷ xs) = keep-none n xs
-
-pub keep-more : {X : Type 0} (bits : List Bool) (xs : List X) (i : ℕ) (d : X) → length bits ≡ length xs → i < length xs → get_or bits i false ≡ true → keep (take (i + 1) bits) (take (i + 1) xs) ≡ keep (take i bits) (take i xs) ++ get_or xs i d ∷ []
-keep-more [] xs i d h k t = absurd (omega arith)
-keep-more (b ∷ bits) [] i d h k t = absurd (omega arith)
-keep-more (true ∷ bits) (x ∷ xs) zero d h k t = refl
-keep-more (false ∷ bits) (x ∷ xs) zero d h k t = absurd (cc)
-keep-more (true ∷ bits) (x ∷ xs) (suc i) d h k t = rw add-one (ap (λ l. x ∷ l) (rw add-one at (keep-more bits xs i d (omega arith) (omega arith) t)))
-keep-more (false ∷ bits) (x ∷ xs) (suc i) d h k t = rw add-one (rw add-one at (keep-more bits xs i d (omega arith) (omega arith) t))
-
-pub keep-skip : {X : Type 0} (bits : List Bool) (xs : List X) (i : ℕ) → length bits ≡ length xs → i < length xs → get_or bits i false ≡ false → keep (take (i + 1) bits) (take (i + 1) xs) ≡ keep (take i bits) (take i xs)
-keep-skip [] xs i h k t = absurd (omega arith)
-keep-skip (b ∷ bits) [] i h k t = absurd (omega arith)
-keep-skip (true ∷ bits) (x ∷ xs) zero h k t = absurd (cc)
-keep-skip (false ∷ bits) (x ∷ xs) zero h k t = refl
-keep-skip (true ∷ bits) (x ∷ xs) (suc i) h k t = rw add-one (ap (λ l. x ∷ l) (rw add-one at (keep-skip bits xs i (omega arith) (omega arith) t)))
-keep-skip (false ∷ bits) (x ∷ xs) (suc i) h k t = rw add-one (rw add-one at (keep-skip bits xs i (omega arith) (omega arith) t))
 
 valid_keep : (w : Validity) (bits : List Bool) (n i : ℕ) → Covers w n → length bits ≡ n → i < trues bits → valid_at (keep_validity bits w) i ≡ valid_at w (place bits i)
 valid_keep v.NonNullable bits n i h e k = refl

@@ -4,6 +4,7 @@ pub mod KeptRows
 pub mod Lowest
 pub mod Masks
 pub mod Nullable
+pub mod Picked
 pub mod Results
 pub mod Rows
 pub mod Scalars

@@ -41,14 +41,14 @@ impl PrimitiveValues {
         ensures errors { IfErr result (λ e. e ≡ Fault.Memory) }
     {
         match self {
-            PrimitiveValues::I8(b) => Ok(PrimitiveValues::I8(filter_buffer(b, bits, trues, ctx)?)),
-            PrimitiveValues::I16(b) => Ok(PrimitiveValues::I16(filter_buffer(b, bits, trues, ctx)?)),
-            PrimitiveValues::I32(b) => Ok(PrimitiveValues::I32(filter_buffer(b, bits, trues, ctx)?)),
-            PrimitiveValues::I64(b) => Ok(PrimitiveValues::I64(filter_buffer(b, bits, trues, ctx)?)),
-            PrimitiveValues::U8(b) => Ok(PrimitiveValues::U8(filter_buffer(b, bits, trues, ctx)?)),
-            PrimitiveValues::U16(b) => Ok(PrimitiveValues::U16(filter_buffer(b, bits, trues, ctx)?)),
-            PrimitiveValues::U32(b) => Ok(PrimitiveValues::U32(filter_buffer(b, bits, trues, ctx)?)),
-            PrimitiveValues::U64(b) => Ok(PrimitiveValues::U64(filter_buffer(b, bits, trues, ctx)?)),
+            PrimitiveValues::I8(b) => Ok(PrimitiveValues::I8(b.filter(bits, trues, ctx)?)),
+            PrimitiveValues::I16(b) => Ok(PrimitiveValues::I16(b.filter(bits, trues, ctx)?)),
+            PrimitiveValues::I32(b) => Ok(PrimitiveValues::I32(b.filter(bits, trues, ctx)?)),
+            PrimitiveValues::I64(b) => Ok(PrimitiveValues::I64(b.filter(bits, trues, ctx)?)),
+            PrimitiveValues::U8(b) => Ok(PrimitiveValues::U8(b.filter(bits, trues, ctx)?)),
+            PrimitiveValues::U16(b) => Ok(PrimitiveValues::U16(b.filter(bits, trues, ctx)?)),
+            PrimitiveValues::U32(b) => Ok(PrimitiveValues::U32(b.filter(bits, trues, ctx)?)),
+            PrimitiveValues::U64(b) => Ok(PrimitiveValues::U64(b.filter(bits, trues, ctx)?)),
         }
     }
 }
@@ -68,19 +68,16 @@ pub(crate) fn filter_bits(
     Ok(BitBuffer::from_vec(ctx.alloc(), kept)?)
 }
 
-// The values where `bits` is true, in a buffer of their own.
-fn filter_buffer<T: Copy + Drop>(
-    values: &Buffer<T>,
-    bits: &BitBuffer,
-    trues: usize,
-    ctx: ExecutionCtx,
-) -> Res<Buffer<T>>
-    requires { length bits.now ≡ length values.now }
-    ensures kept { IfOk result (λ b. b ≡ keep bits.now values.now) }
-    ensures errors { IfErr result (λ e. e ≡ Fault.Memory) }
-{
-    let kept = selected_items(values.as_slice(), bits, trues, ctx.alloc())?;
-    Buffer::from_vec(kept, ctx)
+impl<T: Copy + Drop> Buffer<T> {
+    /// The values where `bits` is true, which are `trues` in number.
+    pub(crate) fn filter(&self, bits: &BitBuffer, trues: usize, ctx: ExecutionCtx) -> Res<Buffer<T>>
+        requires { length bits.now ≡ length self.now }
+        ensures kept { IfOk result (λ b. b ≡ keep bits.now self.now) }
+        ensures errors { IfErr result (λ e. e ≡ Fault.Memory) }
+    {
+        let kept = selected_items(self.as_slice(), bits, trues, ctx.alloc())?;
+        Buffer::from_vec(kept, ctx)
+    }
 }
 
 // The room for all of them is taken once.
@@ -94,10 +91,8 @@ fn selected_items<T: Copy + Drop>(
     ensures { IfOk result (λ v. v.items ≡ keep bits.now items.now) }
 {
     let mut kept = Vec::with_capacity(alloc, trues)?;
-    for i in 0..items.len() {
-        if bits.value(i) {
-            kept.push(items[i])?;
-        }
+    for index in bits.set_indices() {
+        kept.push(items[index])?;
     }
     Ok(kept)
 }
@@ -112,10 +107,8 @@ fn selected_bits(
     ensures { IfOk result (λ v. v.items ≡ keep bits.now values.now) }
 {
     let mut kept = Vec::with_capacity(alloc, trues)?;
-    for i in 0..values.len() {
-        if bits.value(i) {
-            kept.push(values.value(i))?;
-        }
+    for index in bits.set_indices() {
+        kept.push(values.value(index))?;
     }
     Ok(kept)
 }

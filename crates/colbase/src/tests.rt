@@ -7,6 +7,8 @@ use bitlane::BitBuffer;
 use std::alloc::Global;
 use std::test::Fail;
 
+mod filter;
+
 fn bits(alloc: Global, values: &[bool]) -> Result<Validity, Fail> {
     let bits = BitBuffer::collect_bool_in(alloc, values.len(), |i| match values.get(i) {
         Some(value) => *value,

@@ -1,18 +1,14 @@
-use Rattle.std.proofs.Common.{◌∙◌, ap, sym, rules, arith}
-use Rattle.colbase.proofs.KeptRows.{keep-more, keep-skip}
+use Rattle.std.proofs.Common.{◌≡◌, ◌∙◌, length}
+use Rattle.bitlane.specs.Bits.{true_indices}
+use Rattle.colbase.proofs.Picked.{below-start, picked-start}
 use Rattle.colbase.proofs.filter.selected_items.Goals as goal
-use Rattle.colbase.proofs.filter.selected_items.Goals.{then-value+in_ok-push, else-value}
 
-pub loop-i-preserved : goal.loop-i-preserved
-loop-i-preserved g c = elim c.if-value.branch [
-  | then-value+in_ok-push w ↦
-      let e = keep-more c.args.bits.now c.args.items.now c.loop-i.i w.index-items-i.result c.requires c.loop-i-test.true (sym c.value.ensures ∙ w.if-value.true) in
-      let f = w.in_ok-push.ensures.items in
-      let h = w.index-items-i.is in
-      let j = ap (λ v. v.items) w.kept-is in
-      cc (e, f, h, j, c.loop-i.invariant)
-  | else-value w ↦
-      let e = keep-skip c.args.bits.now c.args.items.now c.loop-i.i c.requires c.loop-i-test.true (sym c.value.ensures ∙ w.if-value.false) in
-      let j = ap (λ v. v.items) w.kept-is in
-      cc (e, j, c.loop-i.invariant)
-]
+pub loop-index-init : goal.loop-index-init
+loop-index-init g c =
+    let indices : c.into_iter-index-iterator.result ≡ true_indices c.args.bits.now = c.into_iter-index-iterator.ensures.into_iter_gives ∙ c.set_indices-index-items.ensures in
+    record {
+      goes = tt;
+      ends = tt;
+      within = below-start c.args.bits.now c.into_iter-index-iterator.result (length c.args.items.now) indices c.requires;
+      kept = picked-start c.args.bits.now c.args.items.now c.in_ok-kept.kept.items c.into_iter-index-iterator.result indices c.requires c.in_ok-kept.ensures.items;
+    }

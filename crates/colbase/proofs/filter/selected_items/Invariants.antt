@@ -1,6 +1,12 @@
-use Rattle.std.proofs.Common.{◌≡◌, take}
+use Rattle.std.proofs.Common.{◌≡◌, ◌++◌, length}
 use Rattle.colbase.specs.Keep.{keep}
+use Rattle.colbase.proofs.Picked.{EachBelow, picked}
 use Rattle.colbase.proofs.filter.selected_items.Given as goal
 
-abbrev pub invariant-loop-i : goal.invariant-loop-i
-invariant-loop-i g l = l.kept.items ≡ keep (take l.i l.bits) (take l.i l.items)
+abbrev pub invariant-loop-index : goal.invariant-loop-index
+invariant-loop-index g l = record {
+  goes : (goal.iterator-loop-index g).can_next l.index-iterator;
+  ends : (goal.iterator-loop-index g).is_finite l.index-iterator;
+  within : EachBelow (length l.items) l.index-iterator;
+  kept : l.kept.items ++ picked l.items l.index-iterator ≡ keep l.bits l.items;
+}
