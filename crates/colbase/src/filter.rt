@@ -13,8 +13,13 @@ use bitlane::BitBuffer;
 use std::alloc::{AllocError, Global};
 
 impl Validity {
-    /// The validity of the rows where `bits` is true, which are `trues` in number.
-    pub(crate) fn filter(&self, bits: &BitBuffer, trues: usize, ctx: ExecutionCtx) -> Res<Validity>
+    /// The validity of the rows where `bits` is true, which are `true_count` in number.
+    pub(crate) fn filter(
+        &self,
+        bits: &BitBuffer,
+        true_count: usize,
+        ctx: ExecutionCtx,
+    ) -> Res<Validity>
         requires { Covers self.now (length bits.now) }
         ensures kept { IfOk result (λ w. w ≡ keep_validity bits.now self.now) }
         ensures errors { IfErr result (λ e. e ≡ Fault.Memory) }
@@ -23,17 +28,20 @@ impl Validity {
             Validity::NonNullable => Ok(Validity::NonNullable),
             Validity::AllValid => Ok(Validity::AllValid),
             Validity::AllInvalid => Ok(Validity::AllInvalid),
-            Validity::Array(valid) => Ok(Validity::Array(filter_bits(valid, bits, trues, ctx)?)),
+            Validity::Array(valid) => {
+                let kept = filter_bits(valid, bits, true_count, ctx)?;
+                Ok(Validity::Array(kept))
+            }
         }
     }
 }
 
 impl PrimitiveValues {
-    /// The numbers where `bits` is true, which are `trues` in number.
+    /// The numbers where `bits` is true, which are `true_count` in number.
     pub(crate) fn filter(
         &self,
         bits: &BitBuffer,
-        trues: usize,
+        true_count: usize,
         ctx: ExecutionCtx,
     ) -> Res<PrimitiveValues>
         requires { length bits.now ≡ count self.now }
@@ -41,56 +49,61 @@ impl PrimitiveValues {
         ensures errors { IfErr result (λ e. e ≡ Fault.Memory) }
     {
         match self {
-            PrimitiveValues::I8(b) => Ok(PrimitiveValues::I8(b.filter(bits, trues, ctx)?)),
-            PrimitiveValues::I16(b) => Ok(PrimitiveValues::I16(b.filter(bits, trues, ctx)?)),
-            PrimitiveValues::I32(b) => Ok(PrimitiveValues::I32(b.filter(bits, trues, ctx)?)),
-            PrimitiveValues::I64(b) => Ok(PrimitiveValues::I64(b.filter(bits, trues, ctx)?)),
-            PrimitiveValues::U8(b) => Ok(PrimitiveValues::U8(b.filter(bits, trues, ctx)?)),
-            PrimitiveValues::U16(b) => Ok(PrimitiveValues::U16(b.filter(bits, trues, ctx)?)),
-            PrimitiveValues::U32(b) => Ok(PrimitiveValues::U32(b.filter(bits, trues, ctx)?)),
-            PrimitiveValues::U64(b) => Ok(PrimitiveValues::U64(b.filter(bits, trues, ctx)?)),
+            PrimitiveValues::I8(b) => Ok(PrimitiveValues::I8(b.filter(bits, true_count, ctx)?)),
+            PrimitiveValues::I16(b) => Ok(PrimitiveValues::I16(b.filter(bits, true_count, ctx)?)),
+            PrimitiveValues::I32(b) => Ok(PrimitiveValues::I32(b.filter(bits, true_count, ctx)?)),
+            PrimitiveValues::I64(b) => Ok(PrimitiveValues::I64(b.filter(bits, true_count, ctx)?)),
+            PrimitiveValues::U8(b) => Ok(PrimitiveValues::U8(b.filter(bits, true_count, ctx)?)),
+            PrimitiveValues::U16(b) => Ok(PrimitiveValues::U16(b.filter(bits, true_count, ctx)?)),
+            PrimitiveValues::U32(b) => Ok(PrimitiveValues::U32(b.filter(bits, true_count, ctx)?)),
+            PrimitiveValues::U64(b) => Ok(PrimitiveValues::U64(b.filter(bits, true_count, ctx)?)),
         }
     }
 }
 
-/// The truth values where `bits` is true, which are `trues` in number.
+/// The truth values where `bits` is true, which are `true_count` in number.
 pub(crate) fn filter_bits(
     values: &BitBuffer,
     bits: &BitBuffer,
-    trues: usize,
+    true_count: usize,
     ctx: ExecutionCtx,
 ) -> Res<BitBuffer>
     requires { length bits.now ≡ length values.now }
     ensures kept { IfOk result (λ b. b ≡ keep bits.now values.now) }
     ensures errors { IfErr result (λ e. e ≡ Fault.Memory) }
 {
-    let kept = selected_bits(values, bits, trues, ctx.alloc())?;
+    let kept = selected_bits(values, bits, true_count, ctx.alloc())?;
     Ok(BitBuffer::from_vec(ctx.alloc(), kept)?)
 }
 
 impl<T: Copy + Drop> Buffer<T> {
-    /// The values where `bits` is true, which are `trues` in number.
-    pub(crate) fn filter(&self, bits: &BitBuffer, trues: usize, ctx: ExecutionCtx) -> Res<Buffer<T>>
+    /// The values where `bits` is true, which are `true_count` in number.
+    pub(crate) fn filter(
+        &self,
+        bits: &BitBuffer,
+        true_count: usize,
+        ctx: ExecutionCtx,
+    ) -> Res<Buffer<T>>
         requires { length bits.now ≡ length self.now }
         ensures kept { IfOk result (λ b. b ≡ keep bits.now self.now) }
         ensures errors { IfErr result (λ e. e ≡ Fault.Memory) }
     {
-        let kept = selected_items(self.as_slice(), bits, trues, ctx.alloc())?;
+        let kept = selected_items(self.as_slice(), bits, true_count, ctx.alloc())?;
         Buffer::from_vec(kept, ctx)
     }
 }
 
-// The room for all of them is taken once.
+// Takes the room for all of them once.
 fn selected_items<T: Copy + Drop>(
     items: &[T],
     bits: &BitBuffer,
-    trues: usize,
+    true_count: usize,
     alloc: Global,
 ) -> Result<Vec<T>, AllocError>
     requires { length bits.now ≡ length items.now }
     ensures { IfOk result (λ v. v.items ≡ keep bits.now items.now) }
 {
-    let mut kept = Vec::with_capacity(alloc, trues)?;
+    let mut kept = Vec::with_capacity(alloc, true_count)?;
     for index in bits.set_indices() {
         kept.push(items[index])?;
     }
@@ -100,13 +113,13 @@ fn selected_items<T: Copy + Drop>(
 fn selected_bits(
     values: &BitBuffer,
     bits: &BitBuffer,
-    trues: usize,
+    true_count: usize,
     alloc: Global,
 ) -> Result<Vec<bool>, AllocError>
     requires { length bits.now ≡ length values.now }
     ensures { IfOk result (λ v. v.items ≡ keep bits.now values.now) }
 {
-    let mut kept = Vec::with_capacity(alloc, trues)?;
+    let mut kept = Vec::with_capacity(alloc, true_count)?;
     for index in bits.set_indices() {
         kept.push(values.value(index))?;
     }

@@ -40,45 +40,45 @@ impl ArrayRef {
     }
 
     #[cycle(select)]
-    fn select(&self, bits: &BitBuffer, count: usize, ctx: ExecutionCtx) -> Res<ArrayRef>
+    fn select(&self, bits: &BitBuffer, true_count: usize, ctx: ExecutionCtx) -> Res<ArrayRef>
         requires covers { length bits.now ≡ len self.now }
-        requires counted { count ≡ trues bits.now }
+        requires counted { true_count ≡ trues bits.now }
         ensures selected { IfOk result (Selects self.now bits.now) }
         ensures errors { IfErr result (λ e. e ≡ Fault.Memory) }
     {
         let dtype = self.dtype().share();
-        let layout = self.select_layout(bits, count, ctx)?;
-        make(dtype, count, layout, ctx)
+        let layout = self.select_layout(bits, true_count, ctx)?;
+        make(dtype, true_count, layout, ctx)
     }
 
     #[cycle(select)]
-    fn select_layout(&self, bits: &BitBuffer, count: usize, ctx: ExecutionCtx) -> Res<Layout>
+    fn select_layout(&self, bits: &BitBuffer, true_count: usize, ctx: ExecutionCtx) -> Res<Layout>
         requires covers { length bits.now ≡ len self.now }
-        requires counted { count ≡ trues bits.now }
+        requires counted { true_count ≡ trues bits.now }
         ensures selected { IfOk result (λ l. Selects self.now bits.now (array_of l)) }
         ensures sound { IfOk result (λ l. Sound (array_of l)) }
         ensures errors { IfErr result (λ e. e ≡ Fault.Memory) }
     {
         self.checks();
         match &self.inner.get().layout {
-            Layout::Constant(s, _) => Ok(Layout::Constant(s.share(), count)),
+            Layout::Constant(s, _) => Ok(Layout::Constant(s.share(), true_count)),
             Layout::Masked(child, v) => {
-                let child = child.select(bits, count, ctx)?;
+                let child = child.select(bits, true_count, ctx)?;
                 child.checks();
-                Ok(Layout::Masked(child, v.filter(bits, count, ctx)?))
+                Ok(Layout::Masked(child, v.filter(bits, true_count, ctx)?))
             }
             Layout::Extension(e, storage) => {
-                let storage = storage.select(bits, count, ctx)?;
+                let storage = storage.select(bits, true_count, ctx)?;
                 storage.checks();
                 Ok(Layout::Extension(e.share(), storage))
             }
             Layout::Primitive(values, v) => {
-                let values = values.filter(bits, count, ctx)?;
-                Ok(Layout::Primitive(values, v.filter(bits, count, ctx)?))
+                let values = values.filter(bits, true_count, ctx)?;
+                Ok(Layout::Primitive(values, v.filter(bits, true_count, ctx)?))
             }
             Layout::Bool(truths, v) => {
-                let truths = filter_bits(truths, bits, count, ctx)?;
-                Ok(Layout::Bool(truths, v.filter(bits, count, ctx)?))
+                let truths = filter_bits(truths, bits, true_count, ctx)?;
+                Ok(Layout::Bool(truths, v.filter(bits, true_count, ctx)?))
             }
         }
     }
