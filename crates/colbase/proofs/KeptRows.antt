@@ -6,7 +6,6 @@ use Rattle.bitlane.proofs.Tables.{length-tabulate}
 use Rattle.colbase.specs.Cell.{Cell, truth, number}
 use Rattle.colbase.specs.CellOf.{cell_of}
 use Rattle.colbase.specs.LogicalType as types
-use Rattle.colbase.specs.declared.dtype.ExtDType.{ExtDType}
 use Rattle.colbase.specs.declared.scalar.Scalar.{Scalar}
 use Rattle.colbase.specs.declared.validity.Validity.{Validity}
 use Rattle.colbase.specs.declared.validity.Validity.TheVariants as v
@@ -124,16 +123,6 @@ ptype_keep (p.U64 xs) bits = refl
 if_valid_keep : (w : Validity) (bits : List Bool) (n i : ℕ) → Covers w n → length bits ≡ n → i < trues bits → (c d : Option Cell) → c ≡ d → if_valid (keep_validity bits w) i c ≡ if_valid w (place bits i) d
 if_valid_keep w bits n i h e k c d f = rw (valid_keep w bits n i h e k, f) refl
 
-pub selects_constant : (s : Scalar) (n k : ℕ) (bits : List Bool) → k ≡ trues bits → Selects (constant s n) bits (constant s k)
-selects_constant s n k bits e = record {
-  counted = e;
-  typed = refl;
-  shown = λ i k. refl;
-  kept = λ i k. refl;
-  scalar = refl;
-  batch = refl;
-}
-
 pub selects_primitive : (x : PrimitiveValues) (w : Validity) (bits : List Bool) → Covers w (count x) → length bits ≡ count x → Selects (primitive x w) bits (primitive (keep_values bits x) (keep_validity bits w))
 selects_primitive x w bits h e =
     record {
@@ -172,18 +161,6 @@ masked_batch (list c o u) w = refl
 masked_batch (listview c o z u) w = refl
 masked_batch (fixed_size_list c width n u) w = refl
 
-extension_batch : (e : ExtDType) (c : Array) → constant_cell (extension e c) ≡ scalar_value (scalar_of c)
-extension_batch e (constant s n) = refl
-extension_batch e (masked c u) = refl
-extension_batch e (extension f c) = refl
-extension_batch e (primitive x u) = refl
-extension_batch e (bool bits u) = refl
-extension_batch e (varbin o bs k u) = refl
-extension_batch e (varbinview views buffers k u) = refl
-extension_batch e (list c o u) = refl
-extension_batch e (listview c o z u) = refl
-extension_batch e (fixed_size_list c width n u) = refl
-
 pub selects_masked : (c d : Array) (w : Validity) (bits : List Bool) → Covers w (len c) → length bits ≡ len c → Selects c bits d → Selects (masked c w) bits (masked d (keep_validity bits w))
 selects_masked c d w bits h e s = record {
   counted = s.counted;
@@ -192,16 +169,6 @@ selects_masked c d w bits h e s = record {
   kept = s.kept;
   scalar = refl;
   batch = masked_batch d (keep_validity bits w) ∙ ap scalar_value s.scalar ∙ sym (masked_batch c w);
-}
-
-pub selects_extension : (e : ExtDType) (c d : Array) (bits : List Bool) → Selects c bits d → Selects (extension e c) bits (extension e d)
-selects_extension e c d bits s = record {
-  counted = s.counted;
-  typed = refl;
-  shown = s.shown;
-  kept = s.kept;
-  scalar = refl;
-  batch = extension_batch e d ∙ ap scalar_value s.scalar ∙ sym (extension_batch e c);
 }
 
 pub selects_same : (c a d b : Array) (bits : List Bool) → c ≡ a → d ≡ b → Selects a bits b → Selects c bits d
@@ -225,9 +192,6 @@ sound_masked c d w bits h e s k = (
       let P : Option Cell → Type 0 = λ o. IsSome o in
       subst P (sym (s.shown i j)) (h.2 (place bits i) (omega (arith, place_below bits i j))),
 )
-
-pub sound_extension : (e : ExtDType) (c d : Array) (bits : List Bool) → Sound (extension e c) → Selects c bits d → Sound d → Sound (extension e d)
-sound_extension e c d bits h s k = (k, h.1 ∙ sym s.typed)
 
 must_read_selected : (c d : Array) (bits : List Bool) → length bits ≡ len c → Selects c bits d → (x : Cell) → MustRead d x → MustRead c x
 must_read_selected c d bits e s x (inl h) =

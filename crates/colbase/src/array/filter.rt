@@ -67,10 +67,10 @@ impl ArrayRef {
                 child.checks();
                 Ok(Layout::Masked(child, v.filter(bits, true_count, ctx)?))
             }
-            Layout::Extension(e, storage) => {
+            Layout::Extension(ext, storage) => {
                 let storage = storage.select(bits, true_count, ctx)?;
                 storage.checks();
-                Ok(Layout::Extension(e.share(), storage))
+                Ok(Layout::Extension(ext.share(), storage))
             }
             Layout::Primitive(values, v) => {
                 let values = values.filter(bits, true_count, ctx)?;
