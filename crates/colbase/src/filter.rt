@@ -1,6 +1,6 @@
 // The values that a mask selects, one pass for each buffer.
 ghost use Rattle.std.specs.Prelude.{◌≡◌, length, IfOk, IfErr};
-ghost use Rattle.colbase.specs.Keep.{keep, keep_validity, keep_values};
+ghost use Rattle.colbase.specs.Keep.{keep, keep_validity, keep_values, trues};
 ghost use Rattle.colbase.specs.Valid.{Covers};
 ghost use Rattle.colbase.specs.Values.{count};
 
@@ -20,7 +20,8 @@ impl Validity {
         true_count: usize,
         ctx: ExecutionCtx,
     ) -> Res<Validity>
-        requires { Covers self.now (length bits.now) }
+        requires covers { Covers self.now (length bits.now) }
+        requires counted { true_count ≡ trues bits.now }
         ensures kept { IfOk result (λ w. w ≡ keep_validity bits.now self.now) }
         ensures errors { IfErr result (λ e. e ≡ Fault.Memory) }
     {
@@ -44,7 +45,8 @@ impl PrimitiveValues {
         true_count: usize,
         ctx: ExecutionCtx,
     ) -> Res<PrimitiveValues>
-        requires { length bits.now ≡ count self.now }
+        requires covers { length bits.now ≡ count self.now }
+        requires counted { true_count ≡ trues bits.now }
         ensures kept { IfOk result (λ x. x ≡ keep_values bits.now self.now) }
         ensures errors { IfErr result (λ e. e ≡ Fault.Memory) }
     {
@@ -68,7 +70,8 @@ pub(crate) fn filter_bits(
     true_count: usize,
     ctx: ExecutionCtx,
 ) -> Res<BitBuffer>
-    requires { length bits.now ≡ length values.now }
+    requires covers { length bits.now ≡ length values.now }
+    requires counted { true_count ≡ trues bits.now }
     ensures kept { IfOk result (λ b. b ≡ keep bits.now values.now) }
     ensures errors { IfErr result (λ e. e ≡ Fault.Memory) }
 {
@@ -84,7 +87,8 @@ impl<T: Copy + Drop> Buffer<T> {
         true_count: usize,
         ctx: ExecutionCtx,
     ) -> Res<Buffer<T>>
-        requires { length bits.now ≡ length self.now }
+        requires covers { length bits.now ≡ length self.now }
+        requires counted { true_count ≡ trues bits.now }
         ensures kept { IfOk result (λ b. b ≡ keep bits.now self.now) }
         ensures errors { IfErr result (λ e. e ≡ Fault.Memory) }
     {
@@ -100,7 +104,8 @@ fn selected_items<T: Copy + Drop>(
     true_count: usize,
     alloc: Global,
 ) -> Result<Vec<T>, AllocError>
-    requires { length bits.now ≡ length items.now }
+    requires covers { length bits.now ≡ length items.now }
+    requires counted { true_count ≡ trues bits.now }
     ensures { IfOk result (λ v. v.items ≡ keep bits.now items.now) }
 {
     let mut kept = Vec::with_capacity(alloc, true_count)?;
@@ -116,7 +121,8 @@ fn selected_bits(
     true_count: usize,
     alloc: Global,
 ) -> Result<Vec<bool>, AllocError>
-    requires { length bits.now ≡ length values.now }
+    requires covers { length bits.now ≡ length values.now }
+    requires counted { true_count ≡ trues bits.now }
     ensures { IfOk result (λ v. v.items ≡ keep bits.now values.now) }
 {
     let mut kept = Vec::with_capacity(alloc, true_count)?;

@@ -9,6 +9,6 @@ loop-index-init c =
     record {
       goes = tt;
       ends = tt;
-      within = below-start c.args.bits.now c.into_iter-index-iterator.result (length c.args.values.now) indices c.requires;
-      kept = picked-start c.args.bits.now c.args.values.now c.in_ok-kept.kept.items c.into_iter-index-iterator.result indices c.requires c.in_ok-kept.ensures.items;
+      within = below-start c.args.bits.now c.into_iter-index-iterator.result (length c.args.values.now) indices c.requires.covers;
+      kept = picked-start c.args.bits.now c.args.values.now c.in_ok-kept.kept.items c.into_iter-index-iterator.result indices c.requires.covers c.in_ok-kept.ensures.items;
     }
