@@ -21,3 +21,4 @@ pub mod Cut
 pub mod Hides
 pub mod Equal
 pub mod EqualLaws
+pub mod Keep

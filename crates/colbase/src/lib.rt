@@ -8,6 +8,7 @@ mod buffer;
 mod ctx;
 mod dtype;
 mod fault;
+mod filter;
 mod mask;
 mod name;
 mod native;

@@ -1,7 +1,4 @@
 // Worked values. The contracts say the rest.
-mod scalars;
-mod types;
-
 use crate::{
     Buffer, DType, ExecutionArgs, ExecutionCtx, Fault, LayoutFault, Name, NativeInt, Nullability,
     PType, PrimitiveArray, Scalar, ScalarValue, Validity, ValidityKind,
@@ -11,6 +8,9 @@ use std::alloc::Global;
 use std::test::Fail;
 
 mod constructors;
+mod filter;
+mod scalars;
+mod types;
 
 fn holds_number(scalar: &Scalar, number: i128) -> bool {
     match scalar.value() {
