@@ -12,10 +12,10 @@ use Rattle.colbase.specs.declared.validity.Validity.TheVariants as v
 use Rattle.colbase.specs.Valid.{Covers, valid_at}
 use Rattle.colbase.specs.Masks.{mask_bits, mask_of_bits, validity_mask}
 
-count_true : (bits : List Bool) → count_by (λ b. b) (true ∷ bits) ≡ 1 + count_by (λ b. b) bits
+pub count_true : (bits : List Bool) → count_by (λ b. b) (true ∷ bits) ≡ 1 + count_by (λ b. b) bits
 count_true bits = sum_by-cons (λ x. cond x 1 0) true bits
 
-count_false : (bits : List Bool) → count_by (λ b. b) (false ∷ bits) ≡ count_by (λ b. b) bits
+pub count_false : (bits : List Bool) → count_by (λ b. b) (false ∷ bits) ≡ count_by (λ b. b) bits
 count_false bits = refl
 
 pub count_all : (n : ℕ) → count_by (λ b. b) (tabulate (λ i. true) n) ≡ n

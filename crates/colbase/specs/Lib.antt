@@ -19,3 +19,6 @@ pub mod Masks
 pub mod Layouts
 pub mod Cut
 pub mod Hides
+pub mod Equal
+pub mod EqualLaws
+pub mod Keep

@@ -16,6 +16,7 @@ use std::marker::Model;
 mod boolean;
 mod constant;
 mod extension;
+mod filter;
 mod mask;
 mod masked;
 mod parts;

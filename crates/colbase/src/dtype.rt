@@ -8,6 +8,8 @@ use crate::fault::{Fault, Res};
 use crate::name::Name;
 use shared::Shared;
 
+mod equal;
+
 /// An integer type.
 #[derive(Clone, Copy, Debug, PartialEq, Eq)]
 pub enum PType {

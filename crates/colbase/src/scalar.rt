@@ -7,6 +7,8 @@ use crate::buffer::Buffer;
 use crate::dtype::DType;
 use shared::{Items, Shared};
 
+mod equal;
+mod hash;
 mod lists;
 mod made;
 mod plain;

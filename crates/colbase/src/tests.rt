@@ -1,11 +1,23 @@
 // Worked values. The contracts say the rest.
 use crate::{
     Buffer, DType, ExecutionArgs, ExecutionCtx, Fault, LayoutFault, Name, NativeInt, Nullability,
-    PType, PrimitiveArray, Scalar, Validity, ValidityKind,
+    PType, PrimitiveArray, Scalar, ScalarValue, Validity, ValidityKind,
 };
 use bitlane::BitBuffer;
 use std::alloc::Global;
 use std::test::Fail;
+
+mod constructors;
+mod filter;
+mod scalars;
+mod types;
+
+fn holds_number(scalar: &Scalar, number: i128) -> bool {
+    match scalar.value() {
+        Some(ScalarValue::Int(value)) => *value == number,
+        _ => false,
+    }
+}
 
 fn bits(alloc: Global, values: &[bool]) -> Result<Validity, Fail> {
     let bits = BitBuffer::collect_bool_in(alloc, values.len(), |i| match values.get(i) {
