@@ -1,4 +1,5 @@
-ghost use Rattle.std.specs.Prelude.{◌≡◌};
+ghost use Rattle.std.specs.Prelude.{◌≡◌, true};
+ghost use Rattle.colbase.specs.Equal.{same_type};
 ghost use Rattle.colbase.specs.LogicalType.{nullability_of};
 ghost use Rattle.colbase.specs.LogicalTypeOf.{logical_type};
 ghost use Rattle.colbase.specs.declared.dtype.Nullability.TheVariants.{NonNullable};
@@ -29,5 +30,5 @@ pub struct BatchPlan {
     label: Option<ExtDType>,
     policy: RowPolicy,
     ghost not_nullable: { nullability_of (logical_type storage) ≡ NonNullable },
-    ghost over: { label_storage label (logical_type storage) ≡ logical_type storage },
+    ghost over: { same_type (label_storage label (logical_type storage)) (logical_type storage) ≡ true },
 }

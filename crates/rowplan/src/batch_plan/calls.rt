@@ -20,10 +20,7 @@ impl BatchPlan {
         if storage.is_nullable() {
             return Err(Fault::OutputType);
         }
-        let label = match output {
-            None => None,
-            Some(declared) => own_label(&storage, &declared)?,
-        };
+        let label = own_label(&storage, &output)?;
         Ok(BatchPlan {
             storage,
             label,

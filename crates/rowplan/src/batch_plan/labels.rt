@@ -1,18 +1,22 @@
-ghost use Rattle.std.specs.Prelude.{◌≡◌, Some, IfOk, IfErr};
+ghost use Rattle.std.specs.Prelude.{◌≡◌, true, IfOk, IfErr, option_map};
+ghost use Rattle.colbase.specs.Equal.{same_type};
 ghost use Rattle.colbase.specs.LogicalTypeOf.{logical_type};
 ghost use Rattle.rowtypes.specs.Rows.{logical_types};
 ghost use Rattle.rowplan.specs.Labels.{label_storage, shown_as};
-ghost use Rattle.rowplan.specs.Outputs.{LabelFits, any_nullable};
+ghost use Rattle.rowplan.specs.Outputs.{LabelFits, any_nullable, output_type};
 
 use colbase::{DType, ExtDType, Fault, Res};
 
 // The label that a declared type is: none where it is the storage type, and else an extension over exactly it.
-pub(super) fn own_label(storage: &DType, declared: &DType) -> Res<Option<ExtDType>>
-    ensures over { IfOk result (λ l. label_storage l (logical_type storage.now) ≡ logical_type storage.now) }
-    ensures shown { IfOk result (λ l. shown_as l (logical_type storage.now) ≡ logical_type declared.now) }
-    ensures fits { IfOk result (λ l. LabelFits (logical_type storage.now) (Some (logical_type declared.now))) }
-    ensures errors { IfErr result (λ e. (e ≡ Fault.OutputType) × (LabelFits (logical_type storage.now) (Some (logical_type declared.now)) → ⊥)) }
+pub(super) fn own_label(storage: &DType, declared: &Option<DType>) -> Res<Option<ExtDType>>
+    ensures over { IfOk result (λ l. same_type (label_storage l (logical_type storage.now)) (logical_type storage.now) ≡ true) }
+    ensures shown { IfOk result (λ l. shown_as l (logical_type storage.now) ≡ output_type (logical_type storage.now) (option_map logical_type declared.now)) }
+    ensures fits { IfOk result (λ l. LabelFits (logical_type storage.now) (option_map logical_type declared.now)) }
+    ensures errors { IfErr result (λ e. (e ≡ Fault.OutputType) × (LabelFits (logical_type storage.now) (option_map logical_type declared.now) → ⊥)) }
 {
+    let Some(declared) = declared else {
+        return Ok(None);
+    };
     if declared.is_nullable() {
         return Err(Fault::OutputType);
     }

@@ -1,4 +1,5 @@
 ghost use Rattle.std.specs.Prelude.{◌≡◌};
+ghost use Rattle.rowplan.specs.Policies.{owned_policy};
 
 use crate::batch_plan::{BatchPlan, RowPolicy};
 use crate::row_spec::RowSpec;
@@ -63,11 +64,17 @@ impl<'a, F: RowSpec> RowVisitor<F> for BatchPlanner<'a, F> {
         _apply: A,
     ) -> Res<BatchPlan> {
         Args::validate(self.types)?;
-        let policy = if Args::DENSE_SAFE && Args::DECODE_INFALLIBLE {
-            RowPolicy::Dense
-        } else {
-            RowPolicy::ValidOnly
-        };
-        BatchPlan::new(Out::element_dtype(), self.label, policy)
+        BatchPlan::new(Out::element_dtype(), self.label, owned_policy::<Args>())
+    }
+}
+
+// The policy of a visit that writes one value a row.
+fn owned_policy<Args: ElementTuple>() -> RowPolicy
+    ensures { result ≡ owned_policy Args.DENSE_SAFE Args.DECODE_INFALLIBLE }
+{
+    if Args::DENSE_SAFE && Args::DECODE_INFALLIBLE {
+        RowPolicy::Dense
+    } else {
+        RowPolicy::ValidOnly
     }
 }

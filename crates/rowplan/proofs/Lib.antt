@@ -1,0 +1,3 @@
+pub mod Labelled
+pub mod Planning
+pub mod Types

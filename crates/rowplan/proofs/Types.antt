@@ -1,0 +1,25 @@
+-- Types that are one, and types of one list.
+use Rattle.std.proofs.Common.{◌≡◌, ◌∙◌, ℕ, suc, Bool, true, List, [], ◌∷◌, length, Option, refl, ap, sym}
+use Rattle.std.specs.Prelude.{cond}
+use Rattle.colbase.specs.declared.dtype.DType.{DType}
+use Rattle.colbase.specs.Equal.{same_type}
+use Rattle.colbase.specs.EqualLaws.{type_decides}
+use Rattle.colbase.specs.LogicalType.{LogicalType}
+use Rattle.rowtypes.specs.Rows.{first_refused, logical_types}
+
+pub same_is_true : (t u : LogicalType) → t ≡ u → same_type t u ≡ true
+same_is_true t u e = (type_decides t u).1 e
+
+pub true_is_same : (t u : LogicalType) → same_type t u ≡ true → t ≡ u
+true_is_same t u e = (type_decides t u).0 e
+
+pub as_many : (types : List DType) → length (logical_types types) ≡ length types
+as_many [] = refl
+as_many (t ∷ types) = ap suc (as_many types)
+
+pub refused_same : (f g : ℕ → LogicalType → Bool) → ((k : ℕ) (t : LogicalType) → f k t ≡ g k t) → (k : ℕ) (types : List LogicalType) → first_refused f k types ≡ first_refused g k types
+refused_same f g h k [] = refl
+refused_same f g h k (t ∷ types) =
+    let here = h k t in
+    let later = refused_same f g h (suc k) types in
+    cc (here, later)
