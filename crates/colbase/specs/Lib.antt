@@ -19,3 +19,4 @@ pub mod Masks
 pub mod Layouts
 pub mod Cut
 pub mod Hides
+pub mod Casts
