@@ -8,10 +8,6 @@ use shared::Shared;
 use std::alloc::Global;
 use std::test::Fail;
 
-const NONE: Nullability = Nullability::NonNullable;
-
-const SOME: Nullability = Nullability::Nullable;
-
 fn int(nullability: Nullability) -> DType {
     DType::Primitive(PType::I64, nullability)
 }
@@ -42,8 +38,13 @@ fn is_int(scalar: &Scalar, wanted: i128) -> bool {
 fn a_null_cannot_be_cast(rt: HostRuntime) -> Result<(), Fail> {
     let ctx = ExecutionCtx::new(rt.alloc());
     let array = one_two(rt.alloc(), bits(rt.alloc(), &[true, false])?)?;
-    assert!(rt; array.cast(NONE, ctx).err() == Some(Fault::Cast { row: 1 }));
-    assert!(rt; array.cast(SOME, ctx)?.dtype().same(&int(SOME)));
+    assert!(rt; array.cast(Nullability::NonNullable, ctx).err() == Some(Fault::Cast { row: 1 }));
+    assert!(rt;
+        array
+            .cast(Nullability::Nullable, ctx)?
+            .dtype()
+            .same(&int(Nullability::Nullable))
+    );
     Ok(())
 }
 
@@ -51,53 +52,72 @@ fn a_null_cannot_be_cast(rt: HostRuntime) -> Result<(), Fail> {
 fn numbers_cast_both_ways(rt: HostRuntime) -> Result<(), Fail> {
     let ctx = ExecutionCtx::new(rt.alloc());
     let array = one_two(rt.alloc(), Validity::NonNullable)?;
-    let nullable = array.cast(SOME, ctx)?;
-    assert!(rt; is_one_two(&nullable, &int(SOME), ctx)?);
-    assert!(rt; is_one_two(&nullable.cast(NONE, ctx)?, &int(NONE), ctx)?);
+    let nullable = array.cast(Nullability::Nullable, ctx)?;
+    assert!(rt; is_one_two(&nullable, &int(Nullability::Nullable), ctx)?);
+    assert!(rt;
+        is_one_two(
+            &nullable.cast(Nullability::NonNullable, ctx)?,
+            &int(Nullability::NonNullable),
+            ctx
+        )?
+    );
     Ok(())
 }
 
 #[test]
 fn no_null_text_cast(rt: HostRuntime) -> Result<(), Fail> {
     let ctx = ExecutionCtx::new(rt.alloc());
-    let array = ConstantArray::try_new(Scalar::null(DType::Utf8(SOME)), 0, ctx)?;
-    let cast = array.cast(NONE, ctx)?;
+    let array = ConstantArray::try_new(Scalar::null(DType::Utf8(Nullability::Nullable)), 0, ctx)?;
+    let cast = array.cast(Nullability::NonNullable, ctx)?;
     assert_eq!(rt; cast.len(), 0);
-    assert!(rt; cast.dtype().same(&DType::Utf8(NONE)));
+    assert!(rt; cast.dtype().same(&DType::Utf8(Nullability::NonNullable)));
     Ok(())
 }
 
 #[test]
 fn no_null_list_cast(rt: HostRuntime) -> Result<(), Fail> {
     let ctx = ExecutionCtx::new(rt.alloc());
-    let element = Shared::new(rt.alloc(), int(NONE))?;
-    let dtype = DType::FixedSizeList(element.share(), 3, SOME);
+    let element = Shared::new(rt.alloc(), int(Nullability::NonNullable))?;
+    let dtype = DType::FixedSizeList(element.share(), 3, Nullability::Nullable);
     let array = ConstantArray::try_new(Scalar::null(dtype), 0, ctx)?;
-    let cast = array.cast(NONE, ctx)?;
+    let cast = array.cast(Nullability::NonNullable, ctx)?;
     assert_eq!(rt; cast.len(), 0);
-    assert!(rt; cast.dtype().same(&DType::FixedSizeList(element, 3, NONE)));
+    assert!(rt; cast.dtype().same(&DType::FixedSizeList(element, 3, Nullability::NonNullable)));
     Ok(())
 }
 
 #[test]
 fn a_null_constant_cannot_be_cast(rt: HostRuntime) -> Result<(), Fail> {
     let ctx = ExecutionCtx::new(rt.alloc());
-    let array = ConstantArray::try_new(Scalar::null(int(SOME)), 3, ctx)?;
-    assert!(rt; array.cast(NONE, ctx).err() == Some(Fault::Cast { row: 0 }));
+    let array = ConstantArray::try_new(
+        Scalar::null(DType::Primitive(PType::I64, Nullability::Nullable)),
+        3,
+        ctx,
+    )?;
+    assert!(rt; array.cast(Nullability::NonNullable, ctx).err() == Some(Fault::Cast { row: 0 }));
     let nulls = ConstantArray::try_new(Scalar::null(DType::Null), 3, ctx)?;
-    assert!(rt; nulls.cast(NONE, ctx)?.dtype().same(&DType::Null));
+    assert!(rt;
+        nulls
+            .cast(Nullability::NonNullable, ctx)?
+            .dtype()
+            .same(&DType::Null)
+    );
     Ok(())
 }
 
 #[test]
 fn a_constant_cast_both_ways(rt: HostRuntime) -> Result<(), Fail> {
     let ctx = ExecutionCtx::new(rt.alloc());
-    let array = ConstantArray::try_new(Scalar::int(7, PType::I64, NONE), 3, ctx)?;
-    let nullable = array.cast(SOME, ctx)?;
+    let array = ConstantArray::try_new(
+        Scalar::int(7, PType::I64, Nullability::NonNullable),
+        3,
+        ctx,
+    )?;
+    let nullable = array.cast(Nullability::Nullable, ctx)?;
     assert_eq!(rt; nullable.len(), 3);
-    assert!(rt; nullable.dtype().same(&int(SOME)));
-    let back = nullable.cast(NONE, ctx)?;
-    assert!(rt; back.dtype().same(&int(NONE)));
+    assert!(rt; nullable.dtype().same(&int(Nullability::Nullable)));
+    let back = nullable.cast(Nullability::NonNullable, ctx)?;
+    assert!(rt; back.dtype().same(&int(Nullability::NonNullable)));
     assert!(rt; back.len() == 3 && is_int(&back.scalar_at(2, ctx)?, 7));
     Ok(())
 }
@@ -107,9 +127,15 @@ fn a_masked_cast(rt: HostRuntime) -> Result<(), Fail> {
     let ctx = ExecutionCtx::new(rt.alloc());
     let child = one_two(rt.alloc(), Validity::AllValid)?;
     let whole = MaskedArray::try_new(child.share(), bits(rt.alloc(), &[true, true])?, ctx)?;
-    assert!(rt; is_one_two(&whole.cast(NONE, ctx)?, &int(NONE), ctx)?);
+    assert!(rt;
+        is_one_two(
+            &whole.cast(Nullability::NonNullable, ctx)?,
+            &int(Nullability::NonNullable),
+            ctx
+        )?
+    );
     let first = MaskedArray::try_new(child, bits(rt.alloc(), &[false, true])?, ctx)?;
-    assert!(rt; first.cast(NONE, ctx).err() == Some(Fault::Cast { row: 0 }));
+    assert!(rt; first.cast(Nullability::NonNullable, ctx).err() == Some(Fault::Cast { row: 0 }));
     Ok(())
 }
 
@@ -117,10 +143,32 @@ fn a_masked_cast(rt: HostRuntime) -> Result<(), Fail> {
 fn an_extension_cast(rt: HostRuntime) -> Result<(), Fail> {
     let ctx = ExecutionCtx::new(rt.alloc());
     let name = "vortex.timestamp";
-    let ext = ExtDType::try_new(name, None, None, int(SOME), ctx)?;
-    let wanted = DType::Extension(ExtDType::try_new(name, None, None, int(NONE), ctx)?);
+    let ext = ExtDType::try_new(name, None, None, int(Nullability::Nullable), ctx)?;
+    let wanted = DType::Extension(ExtDType::try_new(
+        name,
+        None,
+        None,
+        int(Nullability::NonNullable),
+        ctx,
+    )?);
     let storage = one_two(rt.alloc(), Validity::AllValid)?;
     let array = ExtensionArray::try_new(ext, storage, ctx)?;
-    assert!(rt; is_one_two(&array.cast(NONE, ctx)?, &wanted, ctx)?);
+    assert!(rt; is_one_two(&array.cast(Nullability::NonNullable, ctx)?, &wanted, ctx)?);
+    Ok(())
+}
+
+#[test]
+fn no_null_extension_cast(rt: HostRuntime) -> Result<(), Fail> {
+    let ctx = ExecutionCtx::new(rt.alloc());
+    let element = Shared::new(rt.alloc(), int(Nullability::NonNullable))?;
+    let storage = DType::FixedSizeList(element, 3, Nullability::Nullable);
+    let dtype = DType::Extension(ExtDType::try_new("pair", None, None, storage, ctx)?);
+    if !dtype.is_nullable() {
+        return Err(Fail::from("not nullable"));
+    }
+    let array = ConstantArray::try_new(Scalar::null(dtype), 0, ctx)?;
+    let cast = array.cast(Nullability::NonNullable, ctx)?;
+    assert!(rt; cast.dtype().eq_ignore_nullability(array.dtype()));
+    assert!(rt; cast.len() == 0 && !cast.dtype().is_nullable());
     Ok(())
 }
