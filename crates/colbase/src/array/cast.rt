@@ -22,7 +22,7 @@ use bitlane::BitBuffer;
 
 impl ArrayRef {
     /// The same rows and payload in the type made nullable or not, at its outer level alone. Copies no value. Looks at
-    /// the rows only where the new type is not nullable.
+    /// the rows only where the new type is not nullable and the validity may hold nulls.
     pub fn cast(&self, to: Nullability, ctx: ExecutionCtx) -> Res<ArrayRef>
         ensures { Casts result self.now to }
     {
