@@ -1,3 +1,4 @@
+pub mod Casting
 pub mod Cut
 pub mod EqualCells
 pub mod HiddenRows

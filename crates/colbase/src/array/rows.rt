@@ -24,10 +24,14 @@ impl ArrayRef {
         }
     }
 
-    /// The lowest null row.
+    /// The lowest null row. Looks at no row where the validity tells that none is null.
     pub fn lowest_null(&self) -> Option<usize>
         ensures { result ≡ lowest (null_at self.now) (len self.now) }
     {
+        self.checks();
+        if let ValidityKind::NoNulls = self.validity_kind() {
+            return None;
+        }
         for i in 0..self.len() {
             if !self.is_valid(i) {
                 return Some(i);
