@@ -8,6 +8,7 @@ unsafe extern "C" {
         xs: *const i64, xs_len: usize, ys: *const i64, ys_len: usize, out: *mut i64, out_len: usize,
     );
     fn rowbench_and(rows: usize, rounds: usize) -> usize;
+    fn rowbench_map_rows(rows: usize, rounds: usize, constant: bool) -> i64;
 }
 
 fn proved_map_into(xs: &[i64], ys: &[i64], out: &mut [i64]) {
@@ -42,6 +43,18 @@ fn plain_and(rows: usize, rounds: usize) -> usize {
         }
     }
     count
+}
+
+/// The last sum of the rising numbers and another column, which are added anew into the same places in each round.
+#[inline(never)]
+fn plain_map_rows(rows: usize, rounds: usize, constant: bool) -> i64 {
+    let first: Vec<i64> = (0..rows as i64).collect();
+    let second: Vec<i64> = if constant { vec![9; rows] } else { first.clone() };
+    let mut places = vec![0; rows];
+    for _ in 0..rounds {
+        plain_map_into(black_box(&first), black_box(&second), black_box(&mut places));
+    }
+    places.last().copied().unwrap_or(0)
 }
 
 /// The least times of two works over several trials, which take turns, in nanoseconds a row.
@@ -98,11 +111,27 @@ fn conjunctions(rows: usize, rounds: usize) {
     report("and of two bit buffers", rows, times);
 }
 
+fn rows_of_tuples(rows: usize, rounds: usize, constant: bool) {
+    let (mut first, mut second) = (0, 0);
+    let times = least(
+        rows,
+        rounds,
+        // SAFETY: the function asks nothing of its numbers.
+        || first = unsafe { rowbench_map_rows(rows, rounds, constant) },
+        || second = plain_map_rows(rows, rounds, constant),
+    );
+    assert_eq!(first, second);
+    let name = if constant { "map_rows, one a constant" } else { "map_rows over two columns" };
+    report(name, rows, times);
+}
+
 fn main() {
     println!("{:<28}{:>10}{:>10}{:>10}{:>8}", "loop", "rows", "proved", "plain", "ratio");
     for rows in [1024, 65536, 1_000_000] {
         let rounds = 8_000_000 / rows;
         sums(rows, rounds);
         conjunctions(rows, rounds);
+        rows_of_tuples(rows, rounds, false);
+        rows_of_tuples(rows, rounds, true);
     }
 }

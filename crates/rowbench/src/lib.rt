@@ -6,6 +6,7 @@ ghost use Rattle.std.specs.Prelude.{◌≡◌, length};
 
 mod bits;
 mod pairs;
+mod tuples;
 
 use bitlane::map_into;
 use pairs::Pairs;
@@ -26,6 +27,20 @@ pub extern "C" fn rowbench_map_into(xs: &[i64], ys: &[i64], out: &mut [i64])
 pub extern "C" fn rowbench_and(alloc: Global, rows: usize, rounds: usize) -> usize {
     match bits::joined_in_rounds(alloc, rows, rounds) {
         Ok(count) => count,
+        Err(_) => 0,
+    }
+}
+
+/// The last sum of two columns through a decoded tuple, the second of which is a constant or not, added anew in each round.
+#[unsafe(no_mangle)]
+pub extern "C" fn rowbench_map_rows(
+    alloc: Global,
+    rows: usize,
+    rounds: usize,
+    constant: bool,
+) -> i64 {
+    match tuples::added_in_rounds(alloc, rows, rounds, constant) {
+        Ok(sum) => sum,
         Err(_) => 0,
     }
 }

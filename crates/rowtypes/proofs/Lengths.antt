@@ -7,6 +7,10 @@ pub both_true : (a b : Bool) → (a && b) ≡ true → (a ≡ true) × (b ≡ tr
 both_true true b h = (refl, h)
 both_true false b h = absurd (cc)
 
+pub and_false : (a : Bool) → (a && false) ≡ false
+and_false true = refl
+and_false false = refl
+
 within : (rows i : ℕ) (n : Option ℕ) → i < rows → is_length rows n ≡ true → IsWithin i n
 within rows i None lt h = tt
 within rows i (Some n) lt h = grind (arith, nat_tests)

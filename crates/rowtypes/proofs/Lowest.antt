@@ -73,3 +73,14 @@ four_shown shown (x ∷ y ∷ z ∷ w ∷ []) a b c d n pa pb pc pd i p q r s hp
     let e3 : s ≡ shown 3 w i = hs ∙ ap (λ t. shown 3 t i) pd in
     cc (e0, e1, e2, e3)
 four_shown shown (x ∷ y ∷ z ∷ w ∷ v ∷ rest) a b c d n pa pb pc pd i p q r s hp hq hr hs = absurd (omega (arith, n))
+
+pub three_shown : (shown : ℕ → Array → ℕ → Cell) (arrays : List Array) (a b c : Array) → length arrays ≡ 3 → a ≡ get_or arrays 0 a → b ≡ get_or arrays 1 b → c ≡ get_or arrays 2 c → (i : ℕ) (p q r : Cell) → p ≡ shown 0 a i → q ≡ shown 1 b i → r ≡ shown 2 c i → (p ∷ q ∷ r ∷ []) ≡ shown_from shown 0 arrays i
+three_shown shown [] a b c n pa pb pc i p q r hp hq hr = absurd (omega (arith, n))
+three_shown shown (x ∷ []) a b c n pa pb pc i p q r hp hq hr = absurd (omega (arith, n))
+three_shown shown (x ∷ y ∷ []) a b c n pa pb pc i p q r hp hq hr = absurd (omega (arith, n))
+three_shown shown (x ∷ y ∷ z ∷ []) a b c n pa pb pc i p q r hp hq hr =
+    let e0 : p ≡ shown 0 x i = hp ∙ ap (λ t. shown 0 t i) pa in
+    let e1 : q ≡ shown 1 y i = hq ∙ ap (λ t. shown 1 t i) pb in
+    let e2 : r ≡ shown 2 z i = hr ∙ ap (λ t. shown 2 t i) pc in
+    cc (e0, e1, e2)
+three_shown shown (x ∷ y ∷ z ∷ v ∷ rest) a b c n pa pb pc i p q r hp hq hr = absurd (omega (arith, n))

@@ -6,6 +6,8 @@ ghost use Rattle.rowtypes.specs.Arguments.{arg_length, arg_shows, arg_value, kno
 
 use crate::batch::batch_const;
 use crate::element::InputElement;
+use crate::source_visitor::SourceVisitor;
+use crate::sources::{ColumnRows, Repeated, Values};
 use colbase::{ArrayRef, ExecutionCtx, Fault, Res};
 
 /// An argument as it is read: one value for all rows, or a decoded column.
@@ -39,6 +41,33 @@ impl<T: InputElement> ArgColumn<T> {
         }
     }
 
+    /// The same as [`ArgColumn::decode`], by the element's decoding with nulls where it has one for the array.
+    pub(crate) fn decode_null_tolerant(
+        array: &ArrayRef,
+        place: usize,
+        ctx: ExecutionCtx,
+    ) -> Res<ArgColumn<T>>
+        requires { T.accepts (dtype array.now) ≡ true }
+        ensures value { IfOk result (λ c. arg_value T.constant_cell c ≡ batch_value array.now) }
+        ensures length { IfOk result (λ c. arg_length T.count c ≡ length_unless (batch_value array.now) (len array.now)) }
+        ensures same { IfOk result (λ c. (i : ℕ) → IsWithin i (arg_length T.count c) → arg_shows T.shows T.constant_cell c i ≡ T.shown array.now i) }
+        ensures read { IfOk result (λ c. ReadsAll T.reads array.now) }
+        ensures dense { IfOk result (λ c. T.DENSE_SAFE ≡ true → (i : ℕ) → IsWithin i (arg_length T.count c) → T.reads (T.shown array.now i)) }
+        ensures errors { IfErr result (λ e. ArgumentFails T.reads place array.now e) }
+    {
+        if has_batch_value(array) {
+            return match T::decode_constant(array, ctx) {
+                Ok(constant) => Ok(ArgColumn::Value(constant)),
+                Err(fault) => Err(at_place(fault, place)),
+            };
+        }
+        match T::decode_null_tolerant(array, ctx) {
+            Ok(Some(column)) => Ok(ArgColumn::Column(column)),
+            Ok(None) => ArgColumn::decode(array, place, ctx),
+            Err(fault) => Err(at_place(fault, place)),
+        }
+    }
+
     /// The value at a row.
     pub fn get(&self, index: usize) -> T::Elem
         requires { IsWithin index (arg_length T.count self.now) }
@@ -57,6 +86,26 @@ impl<T: InputElement> ArgColumn<T> {
         match self {
             ArgColumn::Value(constant) => Some(T::get_constant(constant)),
             ArgColumn::Column(_) => None,
+        }
+    }
+
+    /// Runs a loop over this many rows, told before the loop whether the argument is one value or a column.
+    pub(crate) fn visit<V: SourceVisitor<T::Elem>>(&self, rows: usize, visitor: V) -> V::Output
+        requires ready { V.ready visitor }
+        requires rows { V.rows visitor ≡ rows }
+        requires length { is_length rows (arg_length T.count self.now) ≡ true }
+        requires items { (i : ℕ) (e : T.Elem) → i < rows → T.cell e ≡ arg_shows T.shows T.constant_cell self.now i → V.may_be visitor i e }
+        ensures { V.gives visitor result }
+    {
+        match self {
+            ArgColumn::Value(constant) => {
+                let value = T::get_constant(constant);
+                visitor.visit(Repeated::<T> { value, rows })
+            }
+            ArgColumn::Column(column) => match T::values(column) {
+                Some(values) => visitor.visit(Values::<T> { values }),
+                None => visitor.visit(ColumnRows::<T> { column }),
+            },
         }
     }
 

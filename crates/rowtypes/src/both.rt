@@ -1,7 +1,7 @@
 ghost use Rattle.std.specs.Prelude.{◌≡◌, ℕ, ◌+◌, Bool, true, ◌&&◌, List, ◌++◌, length, min, ◌-◌, ◌^◌};
 
 use crate::arg_column::at_place;
-use crate::tuple::{ElementTuple, IndexedElementTuple};
+use crate::tuple::ElementTuple;
 use colbase::{ArrayRef, DType, ExecutionCtx, Res};
 use std::marker::PhantomData;
 
@@ -82,6 +82,24 @@ impl<A: ElementTuple, B: ElementTuple> ElementTuple for Both<A, B> {
         A::can_decode_null_tolerant(first) && B::can_decode_null_tolerant(second)
     }
 
+    fn decode_null_tolerant(
+        columns: &[ArrayRef],
+        ctx: ExecutionCtx,
+    ) -> Res<Option<(A::Columns, B::Columns)>> {
+        if !<Both<A, B> as ElementTuple>::can_decode_null_tolerant(columns) {
+            return Ok(None);
+        }
+        let (first, second) = split_columns(columns, A::ARITY, B::ARITY);
+        let Some(decoded) = A::decode_null_tolerant(first, ctx)? else {
+            return Ok(None);
+        };
+        match B::decode_null_tolerant(second, ctx) {
+            Ok(Some(more)) => Ok(Some((decoded, more))),
+            Ok(None) => Ok(None),
+            Err(fault) => Err(at_place(fault, A::ARITY)),
+        }
+    }
+
     fn get(columns: &(A::Columns, B::Columns), index: usize) -> (A::Elems, B::Elems) {
         (A::get(&columns.0, index), B::get(&columns.1, index))
     }
@@ -94,8 +112,6 @@ impl<A: ElementTuple, B: ElementTuple> ElementTuple for Both<A, B> {
         (A::const_values(&columns.0), B::const_values(&columns.1))
     }
 }
-
-impl<A: IndexedElementTuple, B: IndexedElementTuple> IndexedElementTuple for Both<A, B> {}
 
 // The types of the first arguments and those of the second.
 fn split_types(types: &[DType], first: usize, second: usize) -> (&[DType], &[DType])

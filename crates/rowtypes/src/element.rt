@@ -1,4 +1,4 @@
-ghost use Rattle.std.specs.Prelude.{◌≡◌, ◌<◌, ℕ, Bool, true, false, Option, Some, None, Ok, Err, IsSome, IfOk, IfErr, IfSome, is_some};
+ghost use Rattle.std.specs.Prelude.{◌≡◌, ◌<◌, ℕ, Bool, true, false, Option, Some, None, Ok, Err, IsSome, IfOk, IfErr, IfSome, is_some, length, slice_index_or};
 
 use colbase::{ArrayRef, DType, ExecutionCtx, Res};
 
@@ -84,6 +84,7 @@ pub trait InputElement {
     /// The same column as that of [`InputElement::decode`], where the array can be decoded with its nulls.
     fn decode_null_tolerant(array: &ArrayRef, ctx: ExecutionCtx) -> Res<Option<Self::Column>>
         requires { accepts (dtype array.now) ≡ true }
+        ensures declined { null_tolerant array.now ≡ false → result ≡ Ok None }
         ensures told { IfOk result (λ o. is_some o ≡ null_tolerant array.now) }
         ensures len { IfOk result (λ o. IfSome o (λ c. count c ≡ len array.now)) }
         ensures same { IfOk result (λ o. IfSome o (λ c. (i : ℕ) → i < len array.now → shows c i ≡ shown array.now i)) }
@@ -103,6 +104,16 @@ pub trait InputElement {
     /// The value of a decoded constant.
     fn get_constant(constant: &Self::Constant) -> Self::Elem
         ensures { cell result ≡ constant_cell constant.now };
+
+    /// The values of a decoded column, where they lie side by side: a loop over a slice is a vector loop. This
+    /// project's own.
+    fn values(column: &Self::Column) -> Option<&[Self::Elem]>
+        ensures len { IfSome result (λ v. length v.now ≡ count column.now) }
+        ensures same { IfSome result (λ v. (i : ℕ) (d : Self.Elem) → i < count column.now → cell (slice_index_or v.now i d) ≡ shows column.now i) };
+
+    /// The same value once more. This project's own.
+    fn again(value: &Self::Elem) -> Self::Elem
+        ensures { cell result ≡ cell value.now };
 
     ghost shown_constant: { (a : Array) (i : ℕ) (x : Cell) → batch_value a ≡ Some x → shown a i ≡ x };
 

@@ -1,8 +1,10 @@
-ghost use Rattle.std.specs.Prelude.{◌≡◌, ℕ, Bool, true, ◌&&◌, List, [], ◌∷◌, length, ◌<◌, ⊤, Option, None, Some, IfOk, IfErr};
+ghost use Rattle.std.specs.Prelude.{◌≡◌, ℕ, Bool, true, false, Ok, IfSome, is_some, ◌&&◌, List, [], ◌∷◌, length, ◌<◌, ⊤, Option, None, Some, IfOk, IfErr};
 
 use crate::element::InputElement;
 use colbase::{ArrayRef, DType, ExecutionCtx, Res};
 
+mod beside;
+mod flat;
 mod four;
 mod indexed;
 mod three;
@@ -90,6 +92,20 @@ pub trait ElementTuple {
         requires arity { length columns.now ≡ ARITY }
         requires types { AcceptsFrom accepts 0 columns.now }
         ensures { result ≡ all_tolerant null_tolerant 0 columns.now };
+
+    /// The same columns as those of [`ElementTuple::decode`], where each array can be decoded with its nulls, and else
+    /// none.
+    fn decode_null_tolerant(columns: &[ArrayRef], ctx: ExecutionCtx) -> Res<Option<Self::Columns>>
+        requires arity { length columns.now ≡ ARITY }
+        requires types { AcceptsFrom accepts 0 columns.now }
+        ensures declined { all_tolerant null_tolerant 0 columns.now ≡ false → result ≡ Ok None }
+        ensures told { IfOk result (λ o. is_some o ≡ all_tolerant null_tolerant 0 columns.now) }
+        ensures lengths { IfOk result (λ o. IfSome o (λ c. lengths c ≡ decoded_lengths columns.now)) }
+        ensures same { IfOk result (λ o. IfSome o (λ c. (i : ℕ) → HasRow (lengths c) i → shows c i ≡ shown_from shown 0 columns.now i)) }
+        ensures known { IfOk result (λ o. IfSome o (λ c. known_of c ≡ batch_values columns.now)) }
+        ensures read { IfOk result (λ o. IfSome o (λ c. ReadsAllFrom reads 0 columns.now)) }
+        ensures dense { IfOk result (λ o. IfSome o (λ c. DENSE_SAFE ≡ true → (i : ℕ) → HasRow (lengths c) i → ReadsFrom reads 0 (shows c i))) }
+        ensures errors { IfErr result (λ e. DecodeFails reads 0 columns.now e) };
 
     /// The values of a row.
     fn get(columns: &Self::Columns, index: usize) -> Self::Elems

@@ -90,6 +90,14 @@ impl InputElement for bool {
     fn get_constant(constant: &bool) -> bool {
         *constant
     }
+
+    fn values(_column: &BitBuffer) -> Option<&[bool]> {
+        None
+    }
+
+    fn again(value: &bool) -> bool {
+        *value
+    }
 }
 
 // The payload of an array of truth values. It shares the array's buffer; a constant is written out.

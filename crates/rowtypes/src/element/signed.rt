@@ -101,6 +101,14 @@ impl InputElement for i8 {
     fn get_constant(constant: &i8) -> i8 {
         *constant
     }
+
+    fn values(column: &Buffer<i8>) -> Option<&[i8]> {
+        Some(column.as_slice())
+    }
+
+    fn again(value: &i8) -> i8 {
+        *value
+    }
 }
 
 impl ElementInt for i16 {
@@ -196,6 +204,14 @@ impl InputElement for i16 {
 
     fn get_constant(constant: &i16) -> i16 {
         *constant
+    }
+
+    fn values(column: &Buffer<i16>) -> Option<&[i16]> {
+        Some(column.as_slice())
+    }
+
+    fn again(value: &i16) -> i16 {
+        *value
     }
 }
 
@@ -293,6 +309,14 @@ impl InputElement for i32 {
     fn get_constant(constant: &i32) -> i32 {
         *constant
     }
+
+    fn values(column: &Buffer<i32>) -> Option<&[i32]> {
+        Some(column.as_slice())
+    }
+
+    fn again(value: &i32) -> i32 {
+        *value
+    }
 }
 
 impl ElementInt for i64 {
@@ -388,5 +412,13 @@ impl InputElement for i64 {
 
     fn get_constant(constant: &i64) -> i64 {
         *constant
+    }
+
+    fn values(column: &Buffer<i64>) -> Option<&[i64]> {
+        Some(column.as_slice())
+    }
+
+    fn again(value: &i64) -> i64 {
+        *value
     }
 }

@@ -101,6 +101,14 @@ impl InputElement for u8 {
     fn get_constant(constant: &u8) -> u8 {
         *constant
     }
+
+    fn values(column: &Buffer<u8>) -> Option<&[u8]> {
+        Some(column.as_slice())
+    }
+
+    fn again(value: &u8) -> u8 {
+        *value
+    }
 }
 
 impl ElementInt for u16 {
@@ -196,6 +204,14 @@ impl InputElement for u16 {
 
     fn get_constant(constant: &u16) -> u16 {
         *constant
+    }
+
+    fn values(column: &Buffer<u16>) -> Option<&[u16]> {
+        Some(column.as_slice())
+    }
+
+    fn again(value: &u16) -> u16 {
+        *value
     }
 }
 
@@ -293,6 +309,14 @@ impl InputElement for u32 {
     fn get_constant(constant: &u32) -> u32 {
         *constant
     }
+
+    fn values(column: &Buffer<u32>) -> Option<&[u32]> {
+        Some(column.as_slice())
+    }
+
+    fn again(value: &u32) -> u32 {
+        *value
+    }
 }
 
 impl ElementInt for u64 {
@@ -388,5 +412,13 @@ impl InputElement for u64 {
 
     fn get_constant(constant: &u64) -> u64 {
         *constant
+    }
+
+    fn values(column: &Buffer<u64>) -> Option<&[u64]> {
+        Some(column.as_slice())
+    }
+
+    fn again(value: &u64) -> u64 {
+        *value
     }
 }

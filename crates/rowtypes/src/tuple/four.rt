@@ -93,6 +93,20 @@ impl<A: InputElement, B: InputElement, C: InputElement, D: InputElement> Element
             && D::can_decode_null_tolerant(&columns[3])
     }
 
+    fn decode_null_tolerant(
+        columns: &[ArrayRef],
+        ctx: ExecutionCtx,
+    ) -> Res<Option<(ArgColumn<A>, ArgColumn<B>, ArgColumn<C>, ArgColumn<D>)>> {
+        if !<(A, B, C, D) as ElementTuple>::can_decode_null_tolerant(columns) {
+            return Ok(None);
+        }
+        let first = ArgColumn::decode_null_tolerant(&columns[0], 0, ctx)?;
+        let second = ArgColumn::decode_null_tolerant(&columns[1], 1, ctx)?;
+        let third = ArgColumn::decode_null_tolerant(&columns[2], 2, ctx)?;
+        let fourth = ArgColumn::decode_null_tolerant(&columns[3], 3, ctx)?;
+        Ok(Some((first, second, third, fourth)))
+    }
+
     fn get(
         columns: &(ArgColumn<A>, ArgColumn<B>, ArgColumn<C>, ArgColumn<D>),
         index: usize,

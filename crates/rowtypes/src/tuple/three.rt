@@ -81,6 +81,19 @@ impl<A: InputElement, B: InputElement, C: InputElement> ElementTuple for (A, B, 
             && C::can_decode_null_tolerant(&columns[2])
     }
 
+    fn decode_null_tolerant(
+        columns: &[ArrayRef],
+        ctx: ExecutionCtx,
+    ) -> Res<Option<(ArgColumn<A>, ArgColumn<B>, ArgColumn<C>)>> {
+        if !<(A, B, C) as ElementTuple>::can_decode_null_tolerant(columns) {
+            return Ok(None);
+        }
+        let first = ArgColumn::decode_null_tolerant(&columns[0], 0, ctx)?;
+        let second = ArgColumn::decode_null_tolerant(&columns[1], 1, ctx)?;
+        let third = ArgColumn::decode_null_tolerant(&columns[2], 2, ctx)?;
+        Ok(Some((first, second, third)))
+    }
+
     fn get(
         columns: &(ArgColumn<A>, ArgColumn<B>, ArgColumn<C>),
         index: usize,

@@ -60,6 +60,10 @@ impl ElementTuple for () {
         true
     }
 
+    fn decode_null_tolerant(_columns: &[ArrayRef], _ctx: ExecutionCtx) -> Res<Option<()>> {
+        Ok(Some(()))
+    }
+
     fn get(_columns: &(), _index: usize) {}
 
     fn decoded_lens_match(_columns: &(), _row_count: usize) -> bool {

@@ -66,6 +66,17 @@ impl<A: InputElement> ElementTuple for (A,) {
         A::can_decode_null_tolerant(&columns[0])
     }
 
+    fn decode_null_tolerant(
+        columns: &[ArrayRef],
+        ctx: ExecutionCtx,
+    ) -> Res<Option<(ArgColumn<A>,)>> {
+        if !<(A,) as ElementTuple>::can_decode_null_tolerant(columns) {
+            return Ok(None);
+        }
+        let first = ArgColumn::decode_null_tolerant(&columns[0], 0, ctx)?;
+        Ok(Some((first,)))
+    }
+
     fn get(columns: &(ArgColumn<A>,), index: usize) -> (A::Elem,) {
         (columns.0.get(index),)
     }
@@ -142,6 +153,18 @@ impl<A: InputElement, B: InputElement> ElementTuple for (A, B) {
 
     fn can_decode_null_tolerant(columns: &[ArrayRef]) -> bool {
         A::can_decode_null_tolerant(&columns[0]) && B::can_decode_null_tolerant(&columns[1])
+    }
+
+    fn decode_null_tolerant(
+        columns: &[ArrayRef],
+        ctx: ExecutionCtx,
+    ) -> Res<Option<(ArgColumn<A>, ArgColumn<B>)>> {
+        if !<(A, B) as ElementTuple>::can_decode_null_tolerant(columns) {
+            return Ok(None);
+        }
+        let first = ArgColumn::decode_null_tolerant(&columns[0], 0, ctx)?;
+        let second = ArgColumn::decode_null_tolerant(&columns[1], 1, ctx)?;
+        Ok(Some((first, second)))
     }
 
     fn get(columns: &(ArgColumn<A>, ArgColumn<B>), index: usize) -> (A::Elem, B::Elem) {
