@@ -10,3 +10,4 @@ pub mod Picked
 pub mod Results
 pub mod Rows
 pub mod Scalars
+pub mod OwnValidity
