@@ -140,12 +140,12 @@ pub hides_extension : (e : ExtDType) (c d a : Array) (bits : List Bool) → Hide
 hides_extension e c d a bits h r = record {
   counted = r.counted ∙ h.counted;
   typed = r.typed;
-  shown = λ i k. r.shown i ∙ h.shown i k;
-  kept = λ i k. r.kept i ∙ h.kept i k;
+  shown = λ i k. r.shown i (rw h.counted k) ∙ h.shown i k;
+  kept = λ i k. r.kept i (rw h.counted k) ∙ h.kept i k;
 }
 
 pub retypes_extension : (e : ExtDType) (c : Array) (t : types.LogicalType) → extension_type e ≡ t → Retypes c t (extension e c)
-retypes_extension e c t h = record { counted = refl; typed = h; shown = λ i. refl; kept = λ i. refl }
+retypes_extension e c t h = record { counted = refl; typed = h; shown = λ i k. refl; kept = λ i k. refl }
 
 pub rows_hidden : (c a : Array) (bits : List Bool) → Hides c bits a → rows a ≡ tabulate (shown_row bits (row c)) (len c)
 rows_hidden c a bits h = ap (tabulate (row a)) h.counted ∙ tabulate-same (row a) (shown_row bits (row c)) (len c) h.shown

@@ -1,3 +1,4 @@
+pub mod Casting
 pub mod Cut
 pub mod EqualCells
 pub mod HiddenRows
@@ -9,3 +10,4 @@ pub mod Picked
 pub mod Results
 pub mod Rows
 pub mod Scalars
+pub mod OwnValidity

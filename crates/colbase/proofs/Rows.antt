@@ -1,19 +1,22 @@
 -- Which rows of an array are null.
-use Rattle.std.proofs.Common.{◌≡◌, ℕ, ◌<◌, Bool, true, false, Option, Some, None, refl}
+use Rattle.std.proofs.Common.{◌≡◌, ◌∙◌, ℕ, ◌<◌, Bool, true, false, Option, Some, None, refl, ap, sym}
 use Rattle.std.specs.Prelude.{is_some, IsSome, not}
 use Rattle.colbase.specs.Cell.{Cell}
 use Rattle.colbase.specs.declared.scalar.ScalarValue.{ScalarValue}
 use Rattle.colbase.specs.declared.dtype.Nullability.{Nullability}
 use Rattle.colbase.specs.declared.dtype.Nullability.TheVariants.{NonNullable, Nullable}
 use Rattle.colbase.specs.CellOf.{cell_of}
-use Rattle.colbase.specs.Valid.{valid_at}
+use Rattle.colbase.specs.Valid.{valid_at, validity_kind}
+use Rattle.colbase.specs.declared.validity.Validity.{Validity}
+use Rattle.colbase.specs.declared.validity.Validity.TheVariants as v
+use Rattle.colbase.specs.declared.validity.ValidityKind.TheVariants.{NoNulls}
 use Rattle.colbase.specs.Faults.{lowest, null_at}
 use Rattle.colbase.specs.Parts.{own_validity, constant_validity}
 use Rattle.colbase.specs.LogicalType.{nullability_of}
 use Rattle.colbase.specs.LogicalTypeOf.{logical_type}
 use Rattle.colbase.specs.Arrays.{Array, constant, masked, extension, primitive, bool, varbin, varbinview, list, listview, fixed_size_list, row, len, Sound}
 use Rattle.std.specs.Prelude.{option_map, cond}
-use Rattle.colbase.proofs.Lowest.{lowest-none}
+use Rattle.colbase.proofs.Lowest.{lowest-never, lowest-none}
 
 some_of : (o : Option Cell) → not (is_some o) ≡ false → IsSome o
 some_of None h = absurd (cc)
@@ -44,3 +47,13 @@ valid_rows (varbinview views buffers k v) s i h = chosen (valid_at v i) _ (s.2 i
 valid_rows (list c offsets v) s i h = chosen (valid_at v i) _ (λ _. refl)
 valid_rows (listview c offsets sizes v) s i h = chosen (valid_at v i) _ (s.3 i h)
 valid_rows (fixed_size_list c width n v) s i h = chosen (valid_at v i) _ (λ _. refl)
+
+valid_by_kind : (w : Validity) (i : ℕ) → validity_kind w ≡ NoNulls → valid_at w i ≡ true
+valid_by_kind v.NonNullable i h = refl
+valid_by_kind v.AllValid i h = refl
+valid_by_kind v.AllInvalid i h = absurd (cc)
+valid_by_kind (v.Array bits) i h = absurd (cc)
+
+-- a validity that tells of no null
+pub none_by_kind : (a : Array) → Sound a → validity_kind (own_validity a) ≡ NoNulls → lowest (null_at a) (len a) ≡ None
+none_by_kind a s h = lowest-never (null_at a) (len a) (λ i k. ap not (sym (valid_rows a s i k) ∙ valid_by_kind (own_validity a) i h))

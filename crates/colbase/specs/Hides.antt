@@ -21,5 +21,5 @@ pub record Hides (old : Array) (bits : List Bool) (new : Array) : Type 0 where
 pub record Retypes (old : Array) (t : LogicalType) (new : Array) : Type 0 where
   pub counted : len new ≡ len old
   pub typed : dtype new ≡ t
-  pub shown : (i : ℕ) → row new i ≡ row old i
-  pub kept : (i : ℕ) → stored new i ≡ stored old i
+  pub shown : (i : ℕ) → i < len old → row new i ≡ row old i
+  pub kept : (i : ℕ) → i < len old → stored new i ≡ stored old i

@@ -22,3 +22,4 @@ pub mod Hides
 pub mod Equal
 pub mod EqualLaws
 pub mod Keep
+pub mod Casts

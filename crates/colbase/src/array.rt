@@ -14,6 +14,7 @@ use shared::Shared;
 use std::marker::Model;
 
 mod boolean;
+mod cast;
 mod constant;
 mod extension;
 mod filter;

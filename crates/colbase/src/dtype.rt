@@ -83,6 +83,24 @@ impl DType {
         }
     }
 
+    /// The nullability of the type once it is made nullable or not.
+    #[cycle(nullability_with)]
+    pub(crate) fn nullability_with(&self, to: Nullability) -> Nullability
+        ensures { result ≡ nullability_of (with_nullability (logical_type self.now) to) }
+    {
+        match self {
+            DType::Null => Nullability::Nullable,
+            DType::Extension(e) => e.nullability_with(to),
+            _ => to,
+        }
+    }
+
+    pub(crate) fn has_nullability(&self, nullability: Nullability) -> bool
+        ensures { IsTrue result ↔ (nullability_of (logical_type self.now) ≡ nullability) }
+    {
+        self.nullability() == nullability
+    }
+
     pub fn is_nullable(&self) -> bool
         ensures { IsTrue result ↔ (nullability_of (logical_type self.now) ≡ Nullability.Nullable) }
     {
@@ -247,6 +265,13 @@ impl ExtDType {
         ensures { result ≡ nullability_of (logical_type self.now.storage) }
     {
         self.storage.get().nullability()
+    }
+
+    #[cycle(nullability_with)]
+    fn nullability_with(&self, to: Nullability) -> Nullability
+        ensures { result ≡ nullability_of (with_nullability (logical_type self.now.storage) to) }
+    {
+        self.storage.get().nullability_with(to)
     }
 }
 

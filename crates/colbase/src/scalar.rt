@@ -7,6 +7,7 @@ use crate::buffer::Buffer;
 use crate::dtype::DType;
 use shared::{Items, Shared};
 
+mod any;
 mod equal;
 mod hash;
 mod lists;

@@ -1,4 +1,6 @@
 // Worked values. The contracts say the rest.
+mod cast;
+
 use crate::{
     Buffer, DType, ExecutionArgs, ExecutionCtx, Fault, LayoutFault, Name, NativeInt, Nullability,
     PType, PrimitiveArray, Scalar, ScalarValue, Validity, ValidityKind,

@@ -1,5 +1,6 @@
 ghost use Rattle.std.specs.Prelude.{◌≡◌, ◌<◌, ◌≤◌, ℕ, length, None, IfOk, IfErr};
 ghost use Rattle.bitlane.specs.Bits.{bit};
+ghost use Rattle.colbase.specs.Casts.{cast_validity};
 ghost use Rattle.colbase.specs.Cut.{cut_validity};
 ghost use Rattle.colbase.specs.Faults.{length_check};
 ghost use Rattle.colbase.specs.Valid.{Covers, LengthsAgree, validity_and, validity_kind, validity_nullability, valid_at};
@@ -52,6 +53,17 @@ impl Validity {
         match self {
             Validity::NonNullable => Nullability::NonNullable,
             _ => Nullability::Nullable,
+        }
+    }
+
+    /// The same rows under a type of this nullability, where no row is null if it is not nullable.
+    pub(crate) fn with_nullability(&self, to: Nullability) -> Validity
+        ensures { result ≡ cast_validity self.now to }
+    {
+        match (to, self) {
+            (Nullability::NonNullable, _) => Validity::NonNullable,
+            (Nullability::Nullable, Validity::NonNullable) => Validity::AllValid,
+            (Nullability::Nullable, _) => self.share(),
         }
     }
 

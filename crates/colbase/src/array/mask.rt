@@ -131,8 +131,8 @@ fn hide_validity(v: &Validity, valid: &BitBuffer, len: usize, ctx: ExecutionCtx)
     v.and(&Validity::Array(valid.share()), ctx)
 }
 
-// An extension over a storage of this nullability.
-fn extension_over(
+/// An extension over a storage of this nullability.
+pub(super) fn extension_over(
     ext: &ExtDType,
     to: Nullability,
     storage: ArrayRef,

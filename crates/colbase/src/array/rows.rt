@@ -1,11 +1,13 @@
 // Which rows are null.
 ghost use Rattle.std.specs.Prelude.{◌≡◌, ◌<◌, ℕ, is_some};
-ghost use Rattle.colbase.specs.Arrays.{row, len};
+ghost use Rattle.colbase.specs.Arrays.{dtype, len, row};
 ghost use Rattle.colbase.specs.Faults.{lowest, null_at};
 ghost use Rattle.colbase.specs.Parts.{own_validity};
-ghost use Rattle.colbase.specs.Valid.{valid_at, validity_kind};
+ghost use Rattle.colbase.specs.LogicalType.{nullability_of};
+ghost use Rattle.colbase.specs.Valid.{Covers, valid_at, validity_kind, validity_nullability};
 
 use super::{ArrayRef, Layout};
+use crate::dtype::Nullability;
 use crate::validity::{Validity, ValidityKind};
 
 impl ArrayRef {
@@ -24,10 +26,14 @@ impl ArrayRef {
         }
     }
 
-    /// The lowest null row.
+    /// The lowest null row. Looks at no row where the validity tells that none is null.
     pub fn lowest_null(&self) -> Option<usize>
         ensures { result ≡ lowest (null_at self.now) (len self.now) }
     {
+        self.checks();
+        if let ValidityKind::NoNulls = self.validity_kind() {
+            return None;
+        }
         for i in 0..self.len() {
             if !self.is_valid(i) {
                 return Some(i);
@@ -41,6 +47,8 @@ impl ArrayRef {
     pub fn validity(&self) -> Validity
         ensures own { result ≡ own_validity self.now }
         ensures tells { (i : ℕ) → i < len self.now → valid_at result i ≡ is_some (row self.now i) }
+        ensures covers { Covers result (len self.now) }
+        ensures nullable { validity_nullability result ≡ Nullability.Nullable → nullability_of (dtype self.now) ≡ Nullability.Nullable }
     {
         self.checks();
         self.own_validity()

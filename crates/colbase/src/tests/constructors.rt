@@ -36,7 +36,13 @@ fn a_mask_over_a_null(rt: HostRuntime) -> Result<(), Fail> {
 fn an_extension_over_another_storage(rt: HostRuntime) -> Result<(), Fail> {
     let ctx = ExecutionCtx::new(rt.alloc());
     let storage = DType::Primitive(PType::I64, Nullability::NonNullable);
-    let ext = ExtDType::try_new("vortex.timestamp", Some(TimeUnit::Seconds), None, storage, ctx)?;
+    let ext = ExtDType::try_new(
+        "vortex.timestamp",
+        Some(TimeUnit::Seconds),
+        None,
+        storage,
+        ctx,
+    )?;
     let values = Buffer::from_vec(vec![in rt.alloc(); 1i32]?, ctx)?;
     let column = PrimitiveArray::try_new(values, Validity::NonNullable, ctx)?;
     let told = ExtensionArray::try_new(ext, column, ctx).err();
