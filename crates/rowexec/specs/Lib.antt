@@ -1,2 +1,4 @@
+pub mod Rows
 pub mod Strict
+pub mod Visits
 pub mod WrappingAdd

@@ -1,6 +1,8 @@
 //! Execution of row functions over whole columns.
 #![tactic(auto)]
 
+mod execute;
+mod visitor;
 mod wrapping_add;
 
 pub use wrapping_add::execute_wrapping_add;

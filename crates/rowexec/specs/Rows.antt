@@ -1,0 +1,58 @@
+-- What a batch call means, row by row.
+use Rattle.std.specs.Prelude.{◌≡◌, ℕ, suc, ◌<◌, ◌==◌, Bool, ◌||◌, true, false, List, [], ◌∷◌, Option, None, Some, ⊤, if◌then◌else◌}
+use Rattle.colbase.specs.Arrays.{Array, dtype, len, row}
+use Rattle.colbase.specs.Cell.{Cell}
+use Rattle.colbase.specs.LogicalType.{LogicalType}
+use Rattle.colbase.specs.Parts.{own_validity}
+use Rattle.colbase.specs.Valid.{validity_kind}
+use Rattle.colbase.specs.declared.fault.Fault.{Fault}
+use Rattle.colbase.specs.declared.fault.Fault.TheVariants.{InputLength}
+use Rattle.colbase.specs.declared.validity.ValidityKind.{ValidityKind}
+use Rattle.colbase.specs.declared.validity.ValidityKind.TheVariants.{AllNull, NoNulls, MayHoldNulls}
+use Rattle.rowplan.specs.Outcomes.{Outcome, done}
+
+abbrev pub types_of : List Array → List LogicalType
+types_of [] = []
+types_of (a ∷ arrays) = dtype a ∷ types_of arrays
+
+abbrev pub with_cell : Option Cell → Option (List Cell) → Option (List Cell)
+with_cell (Some c) (Some cells) = Some (c ∷ cells)
+with_cell _ _ = None
+
+-- the cells of the arguments at row i, where none of them is null there: the row is full
+abbrev pub full_cells : List Array → ℕ → Option (List Cell)
+full_cells [] i = Some []
+full_cells (a ∷ arrays) i = with_cell (row a i) (full_cells arrays i)
+
+-- each array has n rows
+abbrev pub EachHasRows : ℕ → List Array → Type 0
+EachHasRows n [] = ⊤
+EachHasRows n (a ∷ arrays) = (len a ≡ n) × EachHasRows n arrays
+
+-- the first array that does not have n rows, from place k on, as the fault that names it
+abbrev pub wrong_length : ℕ → ℕ → List Array → Option Fault
+wrong_length n k [] = None
+wrong_length n k (a ∷ arrays) = if len a == n then wrong_length n (suc k) arrays else Some (InputLength k (len a) n)
+
+abbrev pub is_all_null : ValidityKind → Bool
+is_all_null AllNull = true
+is_all_null NoNulls = false
+is_all_null MayHoldNulls = false
+
+-- some argument is told to be null at each row
+abbrev pub some_all_null : List Array → Bool
+some_all_null [] = false
+some_all_null (a ∷ arrays) = is_all_null (validity_kind (own_validity a)) || some_all_null arrays
+
+-- a cell whose outcome is done, with evidence that is accepted
+pub record Accepted {E : Type 0} (finish : E → Option ℕ) (outcome : Outcome E) (row : Option Cell) : Type 0 where
+  pub cell : Cell
+  pub evidence : E
+  pub is : row ≡ Some cell
+  pub outcome_is : outcome ≡ done cell evidence
+  pub accepted : finish evidence ≡ None
+
+-- a row of the answer: null where some argument is null, and else the meaning of the cells there
+abbrev pub StrictRow : {E : Type 0} → (E → Option ℕ) → (List Cell → Outcome E) → Option (List Cell) → Option Cell → Type 0
+StrictRow finish meaning None r = r ≡ None
+StrictRow finish meaning (Some cells) r = Accepted finish (meaning cells) r
