@@ -1,13 +1,15 @@
 -- Lists of arguments: their types, their lengths, and what an element of one place or another reads.
-use Rattle.std.proofs.Common.{◌≡◌, ◌∙◌, ℕ, suc, Bool, true, ◌&&◌, List, [], ◌∷◌, length, Option, None, Some, inl, inr, refl, ap, sym, arith}
+use Rattle.std.proofs.Common.{◌≡◌, ◌∙◌, ℕ, suc, Bool, true, ◌&&◌, List, [], ◌∷◌, ◌++◌, length, Option, None, Some, inl, inr, refl, ap, sym, arith}
 use Rattle.std.specs.Prelude.{◌↔◌, nat_eq}
 use Rattle.std.proofs.lemmas.Bool.Decides.{nat_tests}
 use Rattle.colbase.specs.Arrays.{Array, dtype, len}
 use Rattle.colbase.specs.Cell.{Cell}
 use Rattle.colbase.specs.LogicalType.{LogicalType}
+use Rattle.colbase.specs.LogicalTypeOf.{logical_type}
+use Rattle.colbase.specs.declared.dtype.DType.{DType}
 use Rattle.colbase.specs.declared.fault.Fault.{Fault}
 use Rattle.rowtypes.specs.Reading.{Unread}
-use Rattle.rowtypes.specs.Rows.{AcceptsFrom, DecodeFails, FirstUnread, NamesUnread, ReadsAll, decoded_lengths, each_length, is_length, length_unless, shown_from}
+use Rattle.rowtypes.specs.Rows.{logical_types, AcceptsFrom, DecodeFails, FirstUnread, NamesUnread, ReadsAll, decoded_lengths, each_length, is_length, length_unless, shown_from}
 use Rattle.rowtypes.specs.Shown.{batch_value}
 use Rattle.rowexec.specs.Rows.{EachHasRows, types_of}
 
@@ -48,3 +50,8 @@ first_same f g h k (a ∷ arrays) j (inr p) = inr (λ x m. (h k x).0 (p.0 x m), 
 pub fails_same : (f g : ℕ → Cell → Type 0) → ((k : ℕ) (c : Cell) → f k c ↔ g k c) → (k : ℕ) (arrays : List Array) (e : Fault) → DecodeFails f k arrays e → DecodeFails g k arrays e
 fails_same f g h k arrays e (inl m) = inl m
 fails_same f g h k arrays e (inr p) = inr (record { place = p.place; is = p.is; first = first_same f g h k arrays p.place p.first })
+
+-- the types of one more column
+pub type_pushed : (types : List DType) (d : DType) (a : Array) (later : List Array) → logical_type d ≡ dtype a → (logical_types (types ++ d ∷ []) ++ types_of later) ≡ (logical_types types ++ types_of (a ∷ later))
+type_pushed [] d a later e = ap (λ t. t ∷ types_of later) e
+type_pushed (t ∷ types) d a later e = ap (λ ts. logical_type t ∷ ts) (type_pushed types d a later e)

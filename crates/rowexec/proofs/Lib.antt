@@ -1,5 +1,10 @@
 pub mod Addends
+pub mod AllNull
 pub mod Batches
+pub mod Casting
 pub mod Dense
 pub mod FullRows
+pub mod Masking
 pub mod Results
+pub mod StrictRows
+pub mod Tables

@@ -12,3 +12,7 @@ three_then (Err e) P Q R S p q s f = tt
 pub err_then : {A E : Type 0} (r : Result A E) (P Q : E → Type 0) → IfErr r P → ((e : E) → P e → Q e) → IfErr r Q
 err_then (Ok x) P Q p f = tt
 err_then (Err e) P Q p f = f e p
+
+pub ok_then : {A E : Type 0} (P Q : A → Type 0) (r : Result A E) → ((x : A) → P x → Q x) → IfOk r P → IfOk r Q
+ok_then P Q (Ok x) f h = f x h
+ok_then P Q (Err e) f h = tt

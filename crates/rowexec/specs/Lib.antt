@@ -1,3 +1,5 @@
+pub mod Batch
+pub mod Masks
 pub mod Rows
 pub mod Strict
 pub mod Visits

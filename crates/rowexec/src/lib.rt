@@ -1,6 +1,7 @@
 //! Execution of row functions over whole columns.
 #![tactic(auto)]
 
+mod batch;
 mod execute;
 mod visitor;
 mod wrapping_add;

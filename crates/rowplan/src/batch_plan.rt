@@ -10,7 +10,7 @@ use colbase::{DType, ExtDType};
 mod calls;
 mod labels;
 
-pub(crate) use labels::is_any_nullable;
+pub use labels::is_any_nullable;
 
 /// Which rows a visit may run over.
 #[derive(Clone, Copy, Debug, PartialEq, Eq)]

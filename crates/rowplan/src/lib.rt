@@ -6,7 +6,7 @@ mod row_fn;
 mod row_spec;
 mod visitor;
 
-pub use batch_plan::{BatchPlan, RowPolicy};
+pub use batch_plan::{BatchPlan, RowPolicy, is_any_nullable};
 pub use row_fn::RowFn;
 pub use row_spec::RowSpec;
 pub use visitor::{BatchPlanner, RowVisitor};

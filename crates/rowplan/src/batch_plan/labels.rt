@@ -35,7 +35,7 @@ pub(super) fn own_label(storage: &DType, declared: &Option<DType>) -> Res<Option
 }
 
 /// Whether some type is nullable.
-pub(crate) fn is_any_nullable(types: &[DType]) -> bool
+pub fn is_any_nullable(types: &[DType]) -> bool
     ensures { result ≡ any_nullable (logical_types types.now) }
 {
     for dtype in types {

@@ -55,6 +55,6 @@ returns g c =
     let Rows : Array → Type 0 = λ a. (i : ℕ) → i < n → StatesAnswer (λ e. T.cells e ≡ T.shows decoded i) (λ x y. g.A.Fn.post c.args.apply (x, tt) y) g.Out.OutputElement.states (row a i) in
     match_result r (DenseColumn meaning neutral shown storage columns n) (DecodeFails (g.F.RowSpec.reads self.options.now types) 0 columns)
     (three_then r (λ a. dtype a ≡ g.Out.OutputElement.element_type) (λ a. len a ≡ n) Rows (DenseColumn meaning neutral shown storage columns n) c.execute_owned_infallible.ensures.dtype c.execute_owned_infallible.ensures.len c.execute_owned_infallible.ensures.rows
-        (λ a ht hn each. dense_column meaning neutral shown storage g.Out.OutputElement.element_type columns n T.cells (T.shows decoded) (λ x y. g.A.Fn.post c.args.apply (x, tt) y) g.Out.OutputElement.states a c.requires.output.storage same
-            (λ i h x y k p. c.requires.agrees x y (subst (λ cells. ReadsFrom T.reads 0 cells) (sym k) (c.in_ok-decoded.ensures.dense c.requires.dense_safe i (there i h))) p) full ht hn each))
+    (λ a ht hn each. dense_column meaning neutral shown storage g.Out.OutputElement.element_type columns n T.cells (T.shows decoded) (λ x y. g.A.Fn.post c.args.apply (x, tt) y) g.Out.OutputElement.states a c.requires.output.storage same
+    (λ i h x y k p. c.requires.agrees x y (subst (λ cells. ReadsFrom T.reads 0 cells) (sym k) (c.in_ok-decoded.ensures.dense c.requires.dense_safe i (there i h))) p) full ht hn each))
     (err_then r (λ e. e ≡ Memory) (DecodeFails (g.F.RowSpec.reads self.options.now types) 0 columns) c.execute_owned_infallible.ensures.errors (λ e h. inl h))

@@ -1,0 +1,88 @@
+-- From dense values to the rows and the type that a batch answers.
+use Rattle.std.proofs.Common.{◌≡◌, ◌∙◌, ℕ, suc, ◌<◌, Bool, true, false, List, [], ◌∷◌, length, Option, None, Some, Result, Ok, Err, ◌⊎◌, inl, inr, refl, ap, sym, subst}
+use Rattle.std.specs.Prelude.{is_some, cond, ◌==◌}
+use Rattle.std.proofs.Common.{arith}
+use Rattle.std.proofs.lemmas.Bool.Decides.{nat_tests}
+use Rattle.colbase.specs.Arrays.{Array, dtype, len, row}
+use Rattle.colbase.specs.Cell.{Cell}
+use Rattle.colbase.specs.LogicalType.{LogicalType, bool, binary, extension, fixed_size_list, list, null, nullability_of, primitive, utf8, with_nullability}
+use Rattle.colbase.specs.declared.dtype.DType.{DType}
+use Rattle.colbase.specs.declared.dtype.Nullability.{Nullability}
+use Rattle.colbase.specs.declared.dtype.Nullability.TheVariants.{Nullable, NonNullable}
+use Rattle.colbase.specs.declared.fault.Fault.{Fault}
+use Rattle.rowtypes.specs.Rows.{AcceptsFrom, first_refused, logical_types}
+use Rattle.rowplan.specs.Outcomes.{Outcome, done}
+use Rattle.rowplan.specs.Outputs.{InOrder, LabelFits, any_nullable, made_nullable, output_type, stated_type}
+use Rattle.rowexec.specs.Masks.{null_unless}
+use Rattle.rowexec.specs.Rows.{Accepted, EachHasRows, StrictRow, full_cells, types_of, wrong_length}
+use Rattle.rowexec.specs.Visits.{DoneRow}
+use Rattle.rowexec.proofs.Masking.{nullable_made}
+
+pub as_many : (types : List DType) → length (logical_types types) ≡ length types
+as_many [] = refl
+as_many (t ∷ types) = ap suc (as_many types)
+
+pub strict_row : {E : Type 0} (finish : E → Option ℕ) (meaning : List Cell → Outcome E) (neutral : E) (cells : Option (List Cell)) (shown : List Cell) (b : Bool) (r w : Option Cell) → finish neutral ≡ None → b ≡ is_some cells → r ≡ null_unless b w → DoneRow meaning neutral shown w → ((cs : List Cell) → cells ≡ Some cs → shown ≡ cs) → StrictRow finish meaning cells r
+strict_row finish meaning neutral None shown b r w fin hb hr d f = hr ∙ ap (λ t. null_unless t w) hb
+strict_row finish meaning neutral (Some cs) shown b r w fin hb hr d f = record {
+  cell = d.cell;
+  evidence = neutral;
+  is = hr ∙ ap (λ t. null_unless t w) hb ∙ d.is;
+  outcome_is = ap meaning (sym (f cs refl)) ∙ d.outcome;
+  accepted = fin;
+}
+
+pub null_row : {E : Type 0} (finish : E → Option ℕ) (meaning : List Cell → Outcome E) (cells : Option (List Cell)) (r : Option Cell) → cells ≡ None → r ≡ None → StrictRow finish meaning cells r
+null_row finish meaning None r e h = h
+null_row finish meaning (Some cs) r e h = absurd (cc)
+
+accepted_both : (b : Bool) (rest : Option ℕ) (k : ℕ) → cond b rest (Some k) ≡ None → (b ≡ true) × (rest ≡ None)
+accepted_both true rest k h = (refl, h)
+accepted_both false rest k h = absurd (cc)
+
+pub accepted_from : (f : ℕ → LogicalType → Bool) (k : ℕ) (arrays : List Array) → first_refused f k (types_of arrays) ≡ None → AcceptsFrom f k arrays
+accepted_from f k [] h = tt
+accepted_from f k (a ∷ arrays) h =
+    let p = accepted_both (f k (dtype a)) (first_refused f (suc k) (types_of arrays)) k h in
+    (p.0, accepted_from f (suc k) arrays p.1)
+
+same_or : (b : Bool) (m n : ℕ) (rest : Option Fault) (e : Fault) → (b ≡ true → m ≡ n) → cond b rest (Some e) ≡ None → (m ≡ n) × (rest ≡ None)
+same_or true m n rest e q h = (q refl, h)
+same_or false m n rest e q h = absurd (cc)
+
+nat_same : (m n : ℕ) → (m == n) ≡ true → m ≡ n
+nat_same m n h = grind (arith, nat_tests)
+
+length_both : (m n : ℕ) (rest : Option Fault) (e : Fault) → cond (m == n) rest (Some e) ≡ None → (m ≡ n) × (rest ≡ None)
+length_both m n rest e h = same_or (m == n) m n rest e (λ q. nat_same m n q) h
+
+pub rows_from : (n k : ℕ) (arrays : List Array) → wrong_length n k arrays ≡ None → EachHasRows n arrays
+rows_from n k [] h = tt
+rows_from n k (a ∷ arrays) h =
+    let p = length_both (len a) n (wrong_length n (suc k) arrays) _ h in
+    (p.0, rows_from n (suc k) arrays p.1)
+
+non_null_with : (t : LogicalType) → nullability_of t ≡ NonNullable → with_nullability t NonNullable ≡ t
+non_null_with null h = absurd (cc)
+non_null_with (bool n) h = ap bool (sym h)
+non_null_with (primitive p n) h = ap (primitive p) (sym h)
+non_null_with (utf8 n) h = ap utf8 (sym h)
+non_null_with (binary n) h = ap binary (sym h)
+non_null_with (list t n) h = ap (list t) (sym h)
+non_null_with (fixed_size_list t width n) h = ap (fixed_size_list t width) (sym h)
+non_null_with (extension name unit time_zone t) h = ap (extension name unit time_zone) (non_null_with t h)
+
+pub relabel_type : (b : Bool) (s : LogicalType) → nullability_of s ≡ NonNullable → made_nullable b s ≡ with_nullability s (nullability_of (made_nullable b s))
+relabel_type false s h = sym (non_null_with s h) ∙ ap (with_nullability s) (sym h)
+relabel_type true s h = ap (with_nullability s) (sym (nullable_made s))
+
+pub relabelled_type : (b : Bool) (s t : LogicalType) → nullability_of s ≡ NonNullable → nullability_of t ≡ NonNullable → with_nullability t (nullability_of (made_nullable b s)) ≡ made_nullable b t
+relabelled_type false s t h k = ap (with_nullability t) h ∙ non_null_with t k
+relabelled_type true s t h k = ap (with_nullability t) (nullable_made s)
+
+pub output_not_null : (s : LogicalType) (label : Option LogicalType) → InOrder (Some s) label → nullability_of (output_type s label) ≡ NonNullable
+output_not_null s None h = h.0
+output_not_null s (Some l) h = h.1.0
+
+pub stated_nullable : (t : LogicalType) (types : List LogicalType) → any_nullable types ≡ true → nullability_of (stated_type t types) ≡ Nullable
+stated_nullable t types h = ap (λ b. nullability_of (made_nullable b t)) h ∙ nullable_made t

@@ -1,0 +1,51 @@
+// What a call is given: its number of columns, their lengths and their types.
+ghost use Rattle.std.specs.Prelude.{◌≡◌, IfOk, MatchResult};
+ghost use Rattle.rowtypes.specs.Rows.{logical_types};
+ghost use Rattle.rowexec.specs.Batch.{Fits, Misfits};
+ghost use Rattle.rowexec.specs.Rows.{types_of, wrong_length};
+
+use colbase::{ArrayRef, DType, ExecutionArgs, Fault, Res};
+use rowplan::RowSpec;
+use std::alloc::{AllocError, Global};
+
+/// Refuses another number of columns than the function has, and then the first column of another length.
+pub(super) fn check_arguments<F: RowSpec>(args: &ExecutionArgs) -> Res<()>
+    ensures { MatchResult result (λ _. Fits F.arity args.now.row_count args.now.columns) (Misfits F.arity args.now.row_count args.now.columns) }
+{
+    let expected = F::names_of_arguments().len();
+    let actual = args.num_inputs();
+    if actual != expected {
+        return Err(Fault::Arity { expected, actual });
+    }
+    match wrong_length(args.columns(), args.row_count()) {
+        Some(fault) => Err(fault),
+        None => Ok(()),
+    }
+}
+
+fn wrong_length(columns: &[ArrayRef], row_count: usize) -> Option<Fault>
+    ensures { result ≡ wrong_length row_count 0 columns.now }
+{
+    for (index, column) in columns.iter().enumerate() {
+        let length = column.len();
+        if length != row_count {
+            return Some(Fault::InputLength {
+                index,
+                length,
+                row_count,
+            });
+        }
+    }
+    None
+}
+
+/// The types of the columns.
+pub(super) fn argument_types(columns: &[ArrayRef], alloc: Global) -> Result<Vec<DType>, AllocError>
+    ensures { IfOk result (λ v. logical_types v.items ≡ types_of columns.now) }
+{
+    let mut types = Vec::new(alloc);
+    for column in columns {
+        types.push(column.dtype().share())?;
+    }
+    Ok(types)
+}
