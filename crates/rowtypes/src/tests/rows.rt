@@ -84,10 +84,14 @@ fn rows_read_at_their_index(rt: HostRuntime) -> Result<(), Fail> {
 fn a_number_and_a_truth_value(rt: HostRuntime) -> Result<(), Fail> {
     let ctx = ExecutionCtx::new(rt.alloc());
     let columns = [one_and_two(ctx)?, true_and_false(ctx)?];
-    let larger = |(x, more): (i64, bool)| x > 1 || more;
-    let found = answers_by_index::<(i64, bool), bool, _>(&columns, 2, larger, ctx)?;
+    let larger = |(x, more): (i64, bool)| x > 1 && !more;
+    let found = answers::<(i64, bool), bool, _>(&columns, 2, larger, ctx)?;
     let found = found.ok_or("another number of rows")?;
+    let by_index = answers_by_index::<(i64, bool), bool, _>(&columns, 2, larger, ctx)?;
+    let by_index = by_index.ok_or("another number of rows")?;
     let bits = found.bits().ok_or("another layout")?;
-    assert_eq!(rt; (bits.len(), bits.true_count()), (2, 2));
+    assert_eq!(rt; (bits.len(), bits.true_count()), (2, 1));
+    let bits = by_index.bits().ok_or("another layout")?;
+    assert_eq!(rt; (bits.len(), bits.true_count()), (2, 1));
     Ok(())
 }
