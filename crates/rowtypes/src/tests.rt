@@ -2,7 +2,7 @@
 ghost use Rattle.std.specs.Prelude.{◌≡◌, length, slice_index_or, true, IfOk, IsSome};
 ghost use Rattle.colbase.specs.declared.dtype.PType.TheVariants.{I64};
 ghost use Rattle.colbase.specs.Arrays.{constant_cell, dtype};
-ghost use Rattle.rowtypes.specs.Reading.{is_bool, is_integer};
+ghost use Rattle.rowtypes.specs.Reading.{is_integer};
 
 use crate::{
     FillDefault, InputElement, OutputBuffer, OutputElement, Preinitialized, SliceRows, ViewLen,
@@ -10,10 +10,19 @@ use crate::{
 };
 use bitlane::{BitBuffer, IndexedSource};
 use colbase::{
-    ArrayRef, BoolArray, Buffer, ConstantArray, DType, ExecutionCtx, Fault, MaskedArray,
-    Nullability, PType, PrimitiveArray, Res, Scalar, Validity,
+    ArrayRef, Buffer, ConstantArray, DType, ExecutionCtx, Fault, MaskedArray, Nullability, PType,
+    PrimitiveArray, Res, Scalar, Validity,
 };
 use std::test::Fail;
+
+mod columns;
+mod elements;
+mod generic;
+mod outputs;
+mod rows;
+mod tuples;
+
+use columns::true_and_false;
 
 /// The values that an element gives at each row.
 fn decoded<E: InputElement>(array: &ArrayRef, ctx: ExecutionCtx) -> Result<Vec<E::Elem>, Fail>
@@ -46,13 +55,6 @@ fn numbers(ctx: ExecutionCtx) -> Result<ArrayRef, Fail>
     Ok(PrimitiveArray::try_new(values, Validity::Array(valid), ctx)?)
 }
 
-fn truths(ctx: ExecutionCtx) -> Result<ArrayRef, Fail>
-    ensures { IfOk result (λ a. is_bool (dtype a) ≡ true) }
-{
-    let bits = BitBuffer::from_vec(ctx.alloc(), vec![in ctx.alloc(); true, false]?)?;
-    Ok(BoolArray::try_new(bits, Validity::NonNullable, ctx)?)
-}
-
 #[test]
 fn stored_values_are_shown_under_nulls(rt: HostRuntime) -> Result<(), Fail> {
     let ctx = ExecutionCtx::new(rt.alloc());
@@ -60,7 +62,7 @@ fn stored_values_are_shown_under_nulls(rt: HostRuntime) -> Result<(), Fail> {
     let values = decoded::<i64>(&array, ctx)?;
     assert!(rt; values.as_slice() == [7, 8, 9].as_slice());
     assert_eq!(rt; decoded_with_nulls::<i64>(&array, ctx)?, Some(3));
-    let array = truths(ctx)?;
+    let array = true_and_false(ctx)?;
     let values = decoded::<bool>(&array, ctx)?;
     assert!(rt; values.as_slice() == [true, false].as_slice());
     Ok(())

@@ -1,4 +1,4 @@
-use Rattle.std.proofs.Common.{rules, ◌<◌, ◌≡◌, ◌∙◌}
+use Rattle.std.proofs.Common.{rules, ◌<◌, ◌∙◌}
 use Rattle.rowtypes.proofs.arg_column.ArgColumn.visit.Goals as goal
 
 pub visit-requires-in-Some-clause-items : goal.visit-requires-in-Some-clause-items
