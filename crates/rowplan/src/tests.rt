@@ -1,0 +1,2 @@
+// Worked plans, and plans of small row functions.
+mod functions;
