@@ -1,5 +1,5 @@
 -- The plan of a batch.
-use Rattle.std.specs.Prelude.{◌≡◌, ◌≢◌, ⊤, ℕ, Option, None, Some, Result, MatchResult, ◌⊎◌, List}
+use Rattle.std.specs.Prelude.{◌≡◌, ◌≢◌, ⊤, ℕ, Option, None, Some, Result, MatchResult, ◌⊎◌}
 use Rattle.colbase.specs.declared.fault.Fault.{Fault}
 use Rattle.colbase.specs.declared.fault.Fault.TheVariants.{Dtype, OutputType, Memory}
 use Rattle.colbase.specs.declared.fault.Fault.TheVariants as fault
@@ -7,7 +7,6 @@ use Rattle.colbase.specs.declared.fault.PlanDifference.{PlanDifference}
 use Rattle.colbase.specs.declared.fault.PlanDifference.TheVariants as differs
 use Rattle.colbase.specs.LogicalType.{LogicalType}
 use Rattle.colbase.specs.LogicalTypeOf.{logical_type}
-use Rattle.rowtypes.specs.Rows.{first_refused}
 use Rattle.rowplan.specs.declared.batch_plan.BatchPlan.{BatchPlan}
 use Rattle.rowplan.specs.declared.batch_plan.RowPolicy.{RowPolicy}
 use Rattle.rowplan.specs.Labels.{shown_as}

@@ -27,7 +27,13 @@ fn full(ptype: PType) -> DType
 
 /// A timestamp that is stored as this type.
 fn timestamp(storage: DType, ctx: ExecutionCtx) -> Res<DType> {
-    let time = ExtDType::try_new("vortex.timestamp", Some(TimeUnit::Seconds), None, storage, ctx)?;
+    let time = ExtDType::try_new(
+        "vortex.timestamp",
+        Some(TimeUnit::Seconds),
+        None,
+        storage,
+        ctx,
+    )?;
     Ok(DType::Extension(time))
 }
 

@@ -3,9 +3,7 @@ ghost use Rattle.std.specs.Prelude.{◌≡◌, ◌⊎◌, true, false, length, O
 
 use crate::{RowFn, RowSpec, RowVisitor};
 use bitlane::NoFailure;
-use colbase::{
-    DType, EmptyOptions, ExecutionCtx, ExtDType, Fault, Nullability, PType, Res,
-};
+use colbase::{DType, EmptyOptions, ExecutionCtx, ExtDType, Fault, Nullability, PType, Res};
 
 /// No arguments, and the number 7.
 pub struct Seven;

@@ -1,4 +1,4 @@
-use Rattle.std.proofs.Common.{◌≡◌, ◌∙◌, refl, ap, length}
+use Rattle.std.proofs.Common.{◌∙◌, refl, ap, length}
 use Rattle.rowplan.proofs.Types.{as_many}
 use Rattle.rowplan.proofs.tests.functions.LabelledRowFn.dispatch.Goals as goal
 
