@@ -84,16 +84,25 @@ fn the_storage_type_is_no_label(rt: HostRuntime) -> Result<(), Fail> {
     Ok(())
 }
 
+/// The result type of a call with these argument types.
+fn result_type(first: DType, second: DType, ctx: ExecutionCtx) -> Res<DType> {
+    time_plan(ctx)?.result_dtype(&[first, second], ctx)
+}
+
 #[test]
 fn a_nullable_argument_makes_the_result_nullable(rt: HostRuntime) -> Result<(), Fail> {
     let ctx = ExecutionCtx::new(rt.alloc());
-    let plan = time_plan(ctx)?;
+    let told = result_type(full(PType::I64), DType::Utf8(Nullability::Nullable), ctx)?;
     let nullable = DType::Primitive(PType::I64, Nullability::Nullable);
-    let types = [full(PType::I64), DType::Utf8(Nullability::Nullable)];
-    assert!(rt; plan.result_dtype(&types, ctx)? == timestamp(nullable, ctx)?);
-    let types = [full(PType::I64), DType::Utf8(Nullability::NonNullable)];
-    assert!(rt; plan.result_dtype(&types, ctx)? == timestamp(full(PType::I64), ctx)?);
-    assert!(rt; plan.result_dtype(&[], ctx)? == timestamp(full(PType::I64), ctx)?);
+    assert!(rt; told == timestamp(nullable, ctx)?);
+    Ok(())
+}
+
+#[test]
+fn without_nullable_arguments_the_result_is_not_nullable(rt: HostRuntime) -> Result<(), Fail> {
+    let ctx = ExecutionCtx::new(rt.alloc());
+    let told = result_type(full(PType::I64), DType::Utf8(Nullability::NonNullable), ctx)?;
+    assert!(rt; told == timestamp(full(PType::I64), ctx)?);
     Ok(())
 }
 
@@ -123,19 +132,42 @@ fn values_under_a_label(rt: HostRuntime) -> Result<(), Fail> {
     Ok(())
 }
 
+/// The fault of the plan of timestamps where the second plan stands in its place.
+fn difference(actual: BatchPlan, ctx: ExecutionCtx) -> Res<Option<Fault>> {
+    Ok(time_plan(ctx)?.ensure_reproduced_by(&actual).err())
+}
+
 #[test]
-fn plans_that_differ(rt: HostRuntime) -> Result<(), Fail> {
+fn the_same_plan(rt: HostRuntime) -> Result<(), Fail> {
     let ctx = ExecutionCtx::new(rt.alloc());
-    let plan = time_plan(ctx)?;
-    assert!(rt; plan.ensure_reproduced_by(&time_plan(ctx)?).is_ok());
-    let plain = BatchPlan::new(full(PType::I64), None, RowPolicy::Dense)?;
-    let told = plan.ensure_reproduced_by(&plain).err();
+    let told = difference(time_plan(ctx)?, ctx)?;
+    assert!(rt; told.is_none());
+    Ok(())
+}
+
+#[test]
+fn a_plan_of_another_label(rt: HostRuntime) -> Result<(), Fail> {
+    let ctx = ExecutionCtx::new(rt.alloc());
+    let actual = BatchPlan::new(full(PType::I64), None, RowPolicy::Dense)?;
+    let told = difference(actual, ctx)?;
     assert!(rt; told == Some(Fault::Plan(PlanDifference::Label)));
-    let unsigned = BatchPlan::new(full(PType::U64), None, RowPolicy::Dense)?;
-    let told = plan.ensure_reproduced_by(&unsigned).err();
+    Ok(())
+}
+
+#[test]
+fn a_plan_of_another_storage(rt: HostRuntime) -> Result<(), Fail> {
+    let ctx = ExecutionCtx::new(rt.alloc());
+    let actual = BatchPlan::new(full(PType::U64), None, RowPolicy::Dense)?;
+    let told = difference(actual, ctx)?;
     assert!(rt; told == Some(Fault::Plan(PlanDifference::Storage)));
-    let retried = BatchPlan::new(full(PType::U64), None, RowPolicy::DenseWithRetry)?;
-    let told = plan.ensure_reproduced_by(&retried).err();
+    Ok(())
+}
+
+#[test]
+fn a_plan_of_another_policy(rt: HostRuntime) -> Result<(), Fail> {
+    let ctx = ExecutionCtx::new(rt.alloc());
+    let actual = BatchPlan::new(full(PType::U64), None, RowPolicy::DenseWithRetry)?;
+    let told = difference(actual, ctx)?;
     assert!(rt; told == Some(Fault::Plan(PlanDifference::Policy)));
     Ok(())
 }
