@@ -1,7 +1,6 @@
 -- Values under a label.
-use Rattle.std.proofs.Common.{◌≡◌, ◌≢◌, ◌∙◌, Option, Some, Result, Ok, Err, inl, inr, refl, ap, sym}
+use Rattle.std.proofs.Common.{◌≡◌, ◌∙◌, Result, Ok, Err, inl, inr, refl, ap}
 use Rattle.std.specs.Prelude.{IfOk, IfErr}
-use Rattle.bitlane.specs.Bits.{tabulate}
 use Rattle.bitlane.proofs.Tables.{tabulate-same}
 use Rattle.colbase.specs.declared.dtype.ExtDType.{ExtDType}
 use Rattle.colbase.specs.declared.dtype.Nullability.{Nullability}
@@ -9,7 +8,7 @@ use Rattle.colbase.specs.declared.fault.Fault.{Fault}
 use Rattle.colbase.specs.declared.fault.Fault.TheVariants.{Memory}
 use Rattle.colbase.specs.Arrays.{Array, dtype, extension, len, payload, row, rows, stored}
 use Rattle.colbase.specs.Faults.{BuildsExtension}
-use Rattle.colbase.specs.LogicalType.{LogicalType, with_nullability}
+use Rattle.colbase.specs.LogicalType.{with_nullability}
 use Rattle.colbase.specs.LogicalTypeOf.{extension_type, logical_type}
 
 pub rows_labelled : (r : Result Array Fault) (e : ExtDType) (c : Array) → BuildsExtension r e c → IfOk r (λ a. rows a ≡ rows c)

@@ -1,11 +1,11 @@
 -- From a plan of stated types to the plan of a call.
-use Rattle.std.proofs.Common.{◌≡◌, ◌∙◌, ℕ, Option, None, Some, Result, Ok, Err, inl, inr, refl, ap, sym, subst}
+use Rattle.std.proofs.Common.{◌≡◌, ◌∙◌, ℕ, Option, None, Some, Result, Ok, Err, inr, ap, sym, subst}
 use Rattle.colbase.specs.declared.fault.Fault.{Fault}
 use Rattle.colbase.specs.LogicalType.{LogicalType}
 use Rattle.rowplan.specs.declared.batch_plan.BatchPlan.{BatchPlan}
 use Rattle.rowplan.specs.declared.batch_plan.RowPolicy.{RowPolicy}
-use Rattle.rowplan.specs.Outputs.{InOrder, output_type}
-use Rattle.rowplan.specs.Plans.{Plan, Plans, Planned, PlanOf, NoPlan, plan_of}
+use Rattle.rowplan.specs.Outputs.{InOrder}
+use Rattle.rowplan.specs.Plans.{Plan, Plans, Planned}
 
 pub planned_as : (r : Result BatchPlan Fault) (s : LogicalType) (told : Option LogicalType) (p q : RowPolicy) (refused : Option ℕ) (storage label : Option LogicalType) → refused ≡ None → storage ≡ Some s → label ≡ told → q ≡ p → Plans r s told p → Planned r refused storage label q
 planned_as (Ok plan) s told p q refused storage label hr hs hl hq h =

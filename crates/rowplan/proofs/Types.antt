@@ -1,6 +1,5 @@
 -- Types that are one, and types of one list.
-use Rattle.std.proofs.Common.{◌≡◌, ◌∙◌, ℕ, suc, Bool, true, List, [], ◌∷◌, length, Option, refl, ap, sym}
-use Rattle.std.specs.Prelude.{cond}
+use Rattle.std.proofs.Common.{◌≡◌, ℕ, suc, Bool, true, List, [], ◌∷◌, length, refl, ap}
 use Rattle.colbase.specs.declared.dtype.DType.{DType}
 use Rattle.colbase.specs.Equal.{same_type}
 use Rattle.colbase.specs.EqualLaws.{type_decides}

@@ -1,6 +1,5 @@
 -- The type of a row function's output.
 use Rattle.std.specs.Prelude.{◌≡◌, Bool, ◌||◌, false, List, [], ◌∷◌, Option, None, Some, ⊤, ◌⊎◌}
-use Rattle.colbase.specs.declared.dtype.Nullability.{Nullability}
 use Rattle.colbase.specs.declared.dtype.Nullability.TheVariants.{Nullable, NonNullable}
 use Rattle.colbase.specs.Fits.{is_nullable}
 use Rattle.colbase.specs.LogicalType.{LogicalType, extension, nullability_of, with_nullability}

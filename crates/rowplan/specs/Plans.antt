@@ -1,10 +1,12 @@
 -- The plan of a batch.
-use Rattle.std.specs.Prelude.{◌≡◌, ℕ, Option, None, Some, Result, MatchResult, ◌⊎◌, List}
+use Rattle.std.specs.Prelude.{◌≡◌, ◌≢◌, ⊤, ℕ, Option, None, Some, Result, MatchResult, ◌⊎◌}
 use Rattle.colbase.specs.declared.fault.Fault.{Fault}
 use Rattle.colbase.specs.declared.fault.Fault.TheVariants.{Dtype, OutputType, Memory}
+use Rattle.colbase.specs.declared.fault.Fault.TheVariants as fault
+use Rattle.colbase.specs.declared.fault.PlanDifference.{PlanDifference}
+use Rattle.colbase.specs.declared.fault.PlanDifference.TheVariants as differs
 use Rattle.colbase.specs.LogicalType.{LogicalType}
 use Rattle.colbase.specs.LogicalTypeOf.{logical_type}
-use Rattle.rowtypes.specs.Rows.{first_refused}
 use Rattle.rowplan.specs.declared.batch_plan.BatchPlan.{BatchPlan}
 use Rattle.rowplan.specs.declared.batch_plan.RowPolicy.{RowPolicy}
 use Rattle.rowplan.specs.Labels.{shown_as}
@@ -39,3 +41,18 @@ NoPlan refused storage label e = (e ≡ Memory) ⊎ (((k : ℕ) × (refused ≡ 
 -- the answer of a planner
 abbrev pub Planned : Result BatchPlan Fault → Option ℕ → Option LogicalType → Option LogicalType → RowPolicy → Type 0
 Planned r refused storage label policy = MatchResult r (λ p. (refused ≡ None) × PlanOf storage label policy p) (NoPlan refused storage label)
+
+-- the plans agree in the parts before this one, and differ in it
+abbrev pub DifferFirstIn : PlanDifference → Plan → Plan → Type 0
+DifferFirstIn differs.Policy p q = p.policy ≢ q.policy
+DifferFirstIn differs.Storage p q = (p.policy ≡ q.policy) × (p.storage ≢ q.storage)
+DifferFirstIn differs.Label p q = (p.policy ≡ q.policy) × (p.storage ≡ q.storage) × (p.output ≢ q.output)
+
+-- the fault tells the first part in which the plans differ
+abbrev pub TellsDifference : Plan → Plan → Fault → Type 0
+TellsDifference p q (fault.Plan d) = DifferFirstIn d p q
+TellsDifference p q _ = ⊥
+
+-- the answer to whether the plans are one
+abbrev pub Reproduces : Result ⊤ Fault → Plan → Plan → Type 0
+Reproduces r p q = MatchResult r (λ _. p ≡ q) (TellsDifference p q)

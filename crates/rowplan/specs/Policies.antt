@@ -1,5 +1,5 @@
 -- Over which rows a visit may run.
-use Rattle.std.specs.Prelude.{Bool, true, false}
+use Rattle.std.specs.Prelude.{Bool, true}
 use Rattle.rowplan.specs.declared.batch_plan.RowPolicy.{RowPolicy}
 use Rattle.rowplan.specs.declared.batch_plan.RowPolicy.TheVariants.{Dense, ValidOnly}
 

@@ -4,6 +4,8 @@
 mod batch_plan;
 mod row_fn;
 mod row_spec;
+#[cfg(test)]
+mod tests;
 mod visitor;
 
 pub use batch_plan::{BatchPlan, RowPolicy, is_any_nullable};

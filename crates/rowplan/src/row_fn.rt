@@ -1,4 +1,4 @@
-ghost use Rattle.std.specs.Prelude.{◌≡◌, ◌⊎◌, true, false, length, Option, IfOk, IfErr, IfSome, Err, is_some};
+ghost use Rattle.std.specs.Prelude.{◌≡◌, ◌⊎◌, true, false, length, Option, None, IfOk, IfErr, IfSome, Err, is_some};
 
 use crate::row_spec::RowSpec;
 use crate::visitor::RowVisitor;
@@ -25,7 +25,7 @@ pub trait RowFn: RowSpec + Sized {
         ensures errors { IfErr result (λ e. (e ≡ Memory) ⊎ (((e ≡ NotSerializable) × (Self.has_form ≡ false)) ⊎ ((e ≡ Metadata) × (Self.has_form ≡ true) × ((o : Self.Options) → Self.states_options metadata.now o → ⊥)))) };
 
     /// Hands the visitor the visit for these options and types, and passes its answer on. `Refused` exactly where the
-    /// function doesn't take them.
+    /// function doesn't take them. The visitor was told no output type yet, so that a function which declares none has none.
     fn dispatch<V: RowVisitor<Self>>(
         &self,
         options: &Self::Options,
@@ -36,6 +36,7 @@ pub trait RowFn: RowSpec + Sized {
         requires arity { length types.now ≡ Self.arity }
         requires options { V.options visitor ≡ options.now }
         requires types { V.types visitor ≡ logical_types types.now }
+        requires label { V.label visitor ≡ None }
         requires ready { V.ready visitor }
         ensures refused { Self.accepts options.now (logical_types types.now) ≡ false → result ≡ Err Refused }
         ensures gives { Self.accepts options.now (logical_types types.now) ≡ true → (result ≡ Err Memory) ⊎ V.gives visitor result };

@@ -4,11 +4,13 @@ ghost use Rattle.colbase.specs.LogicalType.{nullability_of, with_nullability};
 ghost use Rattle.colbase.specs.LogicalTypeOf.{logical_type};
 ghost use Rattle.rowtypes.specs.Rows.{logical_types};
 ghost use Rattle.rowplan.specs.Outputs.{stated_type};
-ghost use Rattle.rowplan.specs.Plans.{Plans, plan_of};
+ghost use Rattle.rowplan.specs.Plans.{Plans, Reproduces, plan_of};
 
 use super::labels::own_label;
 use super::{BatchPlan, RowPolicy, is_any_nullable};
-use colbase::{ArrayRef, DType, ExecutionCtx, ExtensionArray, Fault, Nullability, Res};
+use colbase::{
+    ArrayRef, DType, ExecutionCtx, ExtensionArray, Fault, Nullability, PlanDifference, Res,
+};
 
 impl BatchPlan {
     /// A plan of this storage type and declared output type. `OutputType` exactly where one of them is nullable, or the
@@ -61,6 +63,22 @@ impl BatchPlan {
             return output.with_nullability(Nullability::Nullable, ctx);
         }
         Ok(output)
+    }
+
+    /// Whether `actual` is this plan. `Plan` tells the first of policy, storage type and output type in which they differ.
+    pub fn ensure_reproduced_by(&self, actual: &BatchPlan) -> Res<()>
+        ensures { Reproduces result (plan_of self.now) (plan_of actual.now) }
+    {
+        if self.policy != actual.policy {
+            return Err(Fault::Plan(PlanDifference::Policy));
+        }
+        if !self.storage.same(&actual.storage) {
+            return Err(Fault::Plan(PlanDifference::Storage));
+        }
+        if !self.output_dtype().same(&actual.output_dtype()) {
+            return Err(Fault::Plan(PlanDifference::Label));
+        }
+        Ok(())
     }
 
     /// The values under the label. Their type is the storage type but for its outer nullability, which stays. No row and no

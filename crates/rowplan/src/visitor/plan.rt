@@ -1,4 +1,4 @@
-ghost use Rattle.std.specs.Prelude.{◌≡◌};
+ghost use Rattle.std.specs.Prelude.{◌≡◌, None};
 ghost use Rattle.rowplan.specs.Policies.{owned_policy};
 
 use crate::batch_plan::{BatchPlan, RowPolicy};
@@ -24,6 +24,7 @@ impl<'a, F: RowSpec> BatchPlanner<'a, F> {
     ) -> BatchPlanner<'a, F>
         ensures options { result.options.now ≡ options.now }
         ensures types { result.types.now ≡ types.now }
+        ensures label { result.label ≡ None }
     {
         BatchPlanner {
             options,
