@@ -1,4 +1,5 @@
 pub mod Batch
+pub mod Calls
 pub mod Masks
 pub mod Rows
 pub mod Strict

@@ -4,4 +4,5 @@ mod call;
 mod finish;
 mod full_rows;
 
+pub(crate) use call::full_mask;
 pub use call::{execute_rows, row_fn_return_dtype};

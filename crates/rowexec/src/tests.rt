@@ -3,6 +3,9 @@ ghost use Rattle.std.specs.Prelude.{◌≡◌, length, IfOk};
 ghost use Rattle.colbase.specs.Arrays.{len};
 ghost use Rattle.rowexec.specs.WrappingAdd.{IsI64Array};
 
+mod batches;
+mod functions;
+
 use crate::execute_wrapping_add;
 use bitlane::BitBuffer;
 use colbase::{ArrayRef, Buffer, ExecutionArgs, ExecutionCtx, NativeInt, PrimitiveArray, Validity};

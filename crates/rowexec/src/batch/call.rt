@@ -1,10 +1,12 @@
-ghost use Rattle.std.specs.Prelude.{◌≡◌, ◌≢◌, ◌<◌, ◌⊎◌, ℕ, length, true, false, Err, IfOk, IfErr, MatchResult};
+ghost use Rattle.std.specs.Prelude.{◌≡◌, ◌≢◌, ◌<◌, ◌⊎◌, ℕ, length, true, false, is_some, Err, IfOk, IfErr, MatchResult};
 ghost use Rattle.colbase.specs.Arrays.{dtype, len, row};
+ghost use Rattle.bitlane.specs.Bits.{bit};
+ghost use Rattle.colbase.specs.Masks.{mask_bits};
 ghost use Rattle.colbase.specs.LogicalTypeOf.{logical_type};
 ghost use Rattle.colbase.specs.declared.fault.Fault.TheVariants.{Arity, Memory};
 ghost use Rattle.rowtypes.specs.Rows.{DecodeFails, logical_types};
 ghost use Rattle.rowplan.specs.Plans.{PlanOf};
-ghost use Rattle.rowexec.specs.Batch.{Cause, Fits, Planned, StatedAs, Unplanned};
+ghost use Rattle.rowexec.specs.Batch.{Cause, Fits, Misfits, Planned, StatedAs, Unplanned};
 ghost use Rattle.rowexec.specs.Visits.{DenseColumn};
 ghost use Rattle.rowexec.specs.Rows.{EachHasRows, StrictRow, full_cells, some_all_null, types_of};
 
@@ -12,7 +14,7 @@ use super::arguments::{argument_types, check_arguments};
 use super::finish::{mask_rows, null_column};
 use super::full_rows::{full_rows, is_some_all_null};
 use crate::visitor::ExecuteRows;
-use colbase::{ArrayRef, DType, ExecutionArgs, ExecutionCtx, Fault, Res};
+use colbase::{ArrayRef, DType, ExecutionArgs, ExecutionCtx, Fault, Mask, Res};
 use rowplan::{BatchPlan, BatchPlanner, RowFn, RowSpec, is_any_nullable};
 
 /// A row function over whole columns.
@@ -62,6 +64,18 @@ pub fn row_fn_return_dtype<F: RowFn>(
     }
     let plan = plan_batch(function, options, types, ctx)?;
     plan.result_dtype(types, ctx)
+}
+
+/// The rows at which no argument is null.
+pub(crate) fn full_mask<F: RowSpec>(args: &ExecutionArgs, ctx: ExecutionCtx) -> Res<Mask>
+    ensures fits { IfOk result (λ _. Fits F.arity args.now.row_count args.now.columns) }
+    ensures len { IfOk result (λ m. length (mask_bits m) ≡ args.now.row_count) }
+    ensures rows { IfOk result (λ m. (i : ℕ) → i < args.now.row_count → bit (mask_bits m) i ≡ is_some (full_cells args.now.columns i)) }
+    ensures errors { IfErr result (λ e. Misfits F.arity args.now.row_count args.now.columns e ⊎ (Fits F.arity args.now.row_count args.now.columns × (e ≡ Memory))) }
+{
+    check_arguments::<F>(args)?;
+    let full = full_rows(args.columns(), args.row_count(), ctx)?;
+    Ok(full.execute_mask(args.row_count()))
 }
 
 // The plan of a call whose types are as many as the function has arguments.

@@ -44,11 +44,11 @@ returns-clause-rows g c =
     let dense = c.requires.dense in
     ok_then (λ a. rows a ≡ rows masked) (λ a. (i : ℕ) → i < n → StrictRow finish meaning (full_cells columns i) (row a i)) c.relabel_output.result
     (λ a e i h.
-        let hm : i < len masked = subst (λ m. i < m) (sym (c.in_ok-masked.ensures.len ∙ dense.counted)) h in
-        let hv : i < len values = subst (λ m. i < m) (sym dense.counted) h in
-        let tells = c.in_ok-full.ensures.tells i (subst (λ m. i < m) (sym c.row_count.ensures) h) ∙ ap (λ xs. is_some (full_cells xs i)) c.columns.ensures in
-        let here = row_of_table a (row masked) (len masked) e i hm ∙ c.in_ok-masked.ensures.rows i hv in
-        strict_row finish meaning neutral (full_cells columns i) (shown_from shown 0 columns i) (valid_at full i) (row a i) (row values i) g.met.F.RowSpec.finish_laws.accepts_neutral tells here (dense.each i h) (λ cs k. dense.full i cs k))
+    let hm : i < len masked = subst (λ m. i < m) (sym (c.in_ok-masked.ensures.len ∙ dense.counted)) h in
+    let hv : i < len values = subst (λ m. i < m) (sym dense.counted) h in
+    let tells = c.in_ok-full.ensures.tells i (subst (λ m. i < m) (sym c.row_count.ensures) h) ∙ ap (λ xs. is_some (full_cells xs i)) c.columns.ensures in
+    let here = row_of_table a (row masked) (len masked) e i hm ∙ c.in_ok-masked.ensures.rows i hv in
+    strict_row finish meaning neutral (full_cells columns i) (shown_from shown 0 columns i) (valid_at full i) (row a i) (row values i) g.met.F.RowSpec.finish_laws.accepts_neutral tells here (dense.each i h) (λ cs k. dense.full i cs k))
     c.relabel_output.ensures.rows
 
 pub returns-clause-dtype : goal.returns-clause-dtype
@@ -68,8 +68,8 @@ returns-clause-dtype g c =
     let told : b ≡ any_nullable types = c.is_any_nullable.ensures ∙ ap any_nullable c.requires.types in
     ok_then (λ a. dtype a ≡ with_nullability out (nullability_of (dtype masked))) (λ a. StatedAs output types (dtype a)) c.relabel_output.result
     (λ a e. record {
-        storage = s;
-        stored = c.requires.plan.stored;
-        is = e ∙ ap (λ t. with_nullability out (nullability_of t)) typed ∙ relabelled_type b s out c.args.plan.now.not_nullable not_null ∙ ap (λ x. made_nullable x out) told ∙ ap (made_nullable (any_nullable types)) c.requires.plan.output;
+      storage = s;
+      stored = c.requires.plan.stored;
+      is = e ∙ ap (λ t. with_nullability out (nullability_of t)) typed ∙ relabelled_type b s out c.args.plan.now.not_nullable not_null ∙ ap (λ x. made_nullable x out) told ∙ ap (made_nullable (any_nullable types)) c.requires.plan.output;
     })
     c.relabel_output.ensures.dtype
