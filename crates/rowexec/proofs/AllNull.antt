@@ -1,5 +1,5 @@
 -- Columns that are null at each row.
-use Rattle.std.proofs.Common.{◌≡◌, ◌∙◌, ℕ, Bool, true, false, ◌||◌, List, [], ◌∷◌, Option, None, Some, refl, ap, sym}
+use Rattle.std.proofs.Common.{◌≡◌, ◌∙◌, ℕ, Bool, true, false, ◌||◌, List, ◌∷◌, Option, None, Some, refl, ap, sym}
 use Rattle.std.specs.Prelude.{is_some}
 use Rattle.colbase.specs.Arrays.{Array, dtype, row}
 use Rattle.colbase.specs.Cell.{Cell}

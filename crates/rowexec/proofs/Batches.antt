@@ -1,6 +1,6 @@
 -- Lists of arguments: their types, their lengths, and what an element of one place or another reads.
-use Rattle.std.proofs.Common.{◌≡◌, ◌∙◌, ℕ, suc, Bool, true, ◌&&◌, List, [], ◌∷◌, ◌++◌, length, Option, None, Some, inl, inr, refl, ap, sym, arith}
-use Rattle.std.specs.Prelude.{◌↔◌, nat_eq}
+use Rattle.std.proofs.Common.{◌≡◌, ◌∙◌, ℕ, suc, Bool, true, ◌&&◌, List, [], ◌∷◌, ◌++◌, length, Option, None, Some, inl, inr, refl, ap, arith}
+use Rattle.std.specs.Prelude.{◌↔◌}
 use Rattle.std.proofs.lemmas.Bool.Decides.{nat_tests}
 use Rattle.colbase.specs.Arrays.{Array, dtype, len}
 use Rattle.colbase.specs.Cell.{Cell}
@@ -9,7 +9,7 @@ use Rattle.colbase.specs.LogicalTypeOf.{logical_type}
 use Rattle.colbase.specs.declared.dtype.DType.{DType}
 use Rattle.colbase.specs.declared.fault.Fault.{Fault}
 use Rattle.rowtypes.specs.Reading.{Unread}
-use Rattle.rowtypes.specs.Rows.{logical_types, AcceptsFrom, DecodeFails, FirstUnread, NamesUnread, ReadsAll, decoded_lengths, each_length, is_length, length_unless, shown_from}
+use Rattle.rowtypes.specs.Rows.{logical_types, AcceptsFrom, DecodeFails, FirstUnread, decoded_lengths, each_length, is_length, length_unless, shown_from}
 use Rattle.rowtypes.specs.Shown.{batch_value}
 use Rattle.rowexec.specs.Rows.{EachHasRows, types_of}
 

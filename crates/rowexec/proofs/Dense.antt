@@ -1,5 +1,5 @@
 -- A column of the answers to all rows is that of the outcomes.
-use Rattle.std.proofs.Common.{◌≡◌, ◌∙◌, ℕ, ◌<◌, List, Option, Some, refl, ap, sym}
+use Rattle.std.proofs.Common.{◌≡◌, ◌∙◌, ℕ, ◌<◌, List, Option, Some, ap, sym}
 use Rattle.colbase.specs.Arrays.{Array, dtype, len, row}
 use Rattle.colbase.specs.Cell.{Cell}
 use Rattle.colbase.specs.LogicalType.{LogicalType}

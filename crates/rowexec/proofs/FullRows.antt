@@ -1,5 +1,5 @@
 -- At a full row the arguments show their cells.
-use Rattle.std.proofs.Common.{◌≡◌, ◌∙◌, ℕ, suc, Bool, true, false, List, [], ◌∷◌, Option, None, Some, refl, ap, sym}
+use Rattle.std.proofs.Common.{◌≡◌, ◌∙◌, ℕ, suc, Bool, true, false, List, [], ◌∷◌, Option, None, Some, refl}
 use Rattle.std.specs.Prelude.{cond, nat_lt, option_map}
 use Rattle.colbase.specs.Arrays.{Array, constant, constant_cell, extension, len, masked, row}
 use Rattle.colbase.specs.Cell.{Cell}

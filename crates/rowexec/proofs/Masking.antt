@@ -1,5 +1,5 @@
 -- Validities joined, and types made nullable.
-use Rattle.std.proofs.Common.{◌≡◌, ◌∙◌, ℕ, ◌<◌, Bool, true, false, ◌&&◌, List, [], ◌∷◌, length, Option, None, Some, Result, Ok, Err, inl, inr, refl, ap, sym, arith, subst}
+use Rattle.std.proofs.Common.{◌≡◌, ◌∙◌, ℕ, ◌<◌, Bool, true, false, ◌&&◌, List, ◌∷◌, length, Option, None, Some, Result, Ok, Err, inl, inr, refl, ap, arith, subst}
 use Rattle.std.specs.Prelude.{IfErr, is_some, option_map}
 use Rattle.bitlane.specs.Bits.{bit}
 use Rattle.bitlane.proofs.Tables.{get_or-tabulate, length-tabulate}

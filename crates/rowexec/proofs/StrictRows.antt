@@ -1,20 +1,19 @@
 -- From dense values to the rows and the type that a batch answers.
-use Rattle.std.proofs.Common.{◌≡◌, ◌∙◌, ℕ, suc, ◌<◌, Bool, true, false, List, [], ◌∷◌, length, Option, None, Some, Result, Ok, Err, ◌⊎◌, inl, inr, refl, ap, sym, subst}
+use Rattle.std.proofs.Common.{◌≡◌, ◌∙◌, ℕ, suc, Bool, true, false, List, [], ◌∷◌, length, Option, None, Some, refl, ap, sym}
 use Rattle.std.specs.Prelude.{is_some, cond, ◌==◌}
 use Rattle.std.proofs.Common.{arith}
 use Rattle.std.proofs.lemmas.Bool.Decides.{nat_tests}
-use Rattle.colbase.specs.Arrays.{Array, dtype, len, row}
+use Rattle.colbase.specs.Arrays.{Array, dtype, len}
 use Rattle.colbase.specs.Cell.{Cell}
 use Rattle.colbase.specs.LogicalType.{LogicalType, bool, binary, extension, fixed_size_list, list, null, nullability_of, primitive, utf8, with_nullability}
 use Rattle.colbase.specs.declared.dtype.DType.{DType}
-use Rattle.colbase.specs.declared.dtype.Nullability.{Nullability}
 use Rattle.colbase.specs.declared.dtype.Nullability.TheVariants.{Nullable, NonNullable}
 use Rattle.colbase.specs.declared.fault.Fault.{Fault}
 use Rattle.rowtypes.specs.Rows.{AcceptsFrom, first_refused, logical_types}
-use Rattle.rowplan.specs.Outcomes.{Outcome, done}
-use Rattle.rowplan.specs.Outputs.{InOrder, LabelFits, any_nullable, made_nullable, output_type, stated_type}
+use Rattle.rowplan.specs.Outcomes.{Outcome}
+use Rattle.rowplan.specs.Outputs.{InOrder, any_nullable, made_nullable, output_type, stated_type}
 use Rattle.rowexec.specs.Masks.{null_unless}
-use Rattle.rowexec.specs.Rows.{Accepted, EachHasRows, StrictRow, full_cells, types_of, wrong_length}
+use Rattle.rowexec.specs.Rows.{EachHasRows, StrictRow, types_of, wrong_length}
 use Rattle.rowexec.specs.Visits.{DoneRow}
 use Rattle.rowexec.proofs.Masking.{nullable_made}
 

@@ -1,5 +1,5 @@
 -- Rows of an array whose rows are a table.
-use Rattle.std.proofs.Common.{◌≡◌, ◌∙◌, ℕ, ◌<◌, List, length, get_or, Option, None, refl, ap, sym, subst}
+use Rattle.std.proofs.Common.{◌≡◌, ◌∙◌, ℕ, ◌<◌, length, get_or, Option, None, ap, sym, subst}
 use Rattle.bitlane.specs.Bits.{tabulate}
 use Rattle.bitlane.proofs.Tables.{get_or-tabulate, length-tabulate}
 use Rattle.colbase.specs.Arrays.{Array, len, row, rows}

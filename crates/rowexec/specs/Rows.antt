@@ -1,5 +1,5 @@
 -- What a batch call means, row by row.
-use Rattle.std.specs.Prelude.{◌≡◌, ℕ, suc, ◌<◌, ◌==◌, Bool, ◌||◌, true, false, List, [], ◌∷◌, Option, None, Some, ⊤, if◌then◌else◌}
+use Rattle.std.specs.Prelude.{◌≡◌, ℕ, suc, ◌==◌, Bool, ◌||◌, true, false, List, [], ◌∷◌, Option, None, Some, ⊤, if◌then◌else◌}
 use Rattle.colbase.specs.Arrays.{Array, dtype, len, row}
 use Rattle.colbase.specs.Cell.{Cell}
 use Rattle.colbase.specs.LogicalType.{LogicalType}

@@ -1,6 +1,5 @@
-use Rattle.std.proofs.Common.{◌<◌, ◌≡◌, ◌+◌, ◌++◌, [], ◌∷◌, drop, length, ap, arith, add-one, sym, ◌∙◌, rules}
-use Rattle.std.proofs.lemmas.List.{at_drop_more, drop_more}
-use Rattle.std.proofs.lemmas.Grind.{common_steps}
+use Rattle.std.proofs.Common.{◌<◌, ◌+◌, ◌++◌, ◌∷◌, drop, length, ap, arith, sym, ◌∙◌}
+use Rattle.std.proofs.lemmas.List.{at_drop_more}
 use Rattle.colbase.specs.LogicalTypeOf.{logical_type}
 use Rattle.rowtypes.specs.Rows.{logical_types}
 use Rattle.rowexec.specs.Rows.{types_of}

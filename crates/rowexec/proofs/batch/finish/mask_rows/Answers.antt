@@ -1,10 +1,8 @@
 use Rattle.std.proofs.Common.{◌≡◌, ◌∙◌, ◌<◌, ℕ, ap, sym, rules}
-use Rattle.std.specs.Prelude.{MatchResult, IfOk}
 use Rattle.bitlane.specs.Bits.{tabulate}
-use Rattle.colbase.specs.Arrays.{Array, len, row, rows}
+use Rattle.colbase.specs.Arrays.{len, row, rows}
 use Rattle.colbase.specs.Hides.{shown_row}
 use Rattle.colbase.specs.Valid.{valid_at}
-use Rattle.colbase.specs.declared.validity.Validity.TheVariants as v
 use Rattle.rowexec.specs.Masks.{null_unless}
 use Rattle.rowexec.proofs.Masking.{nullable_made}
 use Rattle.rowexec.proofs.Results.{ok_then}

@@ -1,5 +1,4 @@
-use Rattle.std.proofs.Common.{◌≡◌, ◌∷◌, ◌<◌, sym, subst, rules}
-use Rattle.rowexec.proofs.AllNull.{all_null_type, not_full_here, not_full_later, nullable_here, nullable_later}
+use Rattle.std.proofs.Common.{◌≡◌, ◌∷◌, rules}
 use Rattle.rowexec.proofs.Masking.{rows_of_others}
 use Rattle.rowexec.proofs.batch.full_rows.+is_some_all_null.Goals as goal
 

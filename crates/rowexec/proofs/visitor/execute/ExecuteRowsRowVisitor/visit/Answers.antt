@@ -1,12 +1,12 @@
-use Rattle.std.proofs.Common.{◌≡◌, ◌∙◌, ◌<◌, ℕ, List, length, sym, ap, subst, true, inl, rules}
-use Rattle.std.specs.Prelude.{IfOk, IfErr, Some}
+use Rattle.std.proofs.Common.{◌≡◌, ◌∙◌, ◌<◌, ℕ, List, length, sym, ap, subst, inl, rules}
+use Rattle.std.specs.Prelude.{Some}
 use Rattle.colbase.specs.Arrays.{Array, dtype, len, row}
 use Rattle.colbase.specs.Cell.{Cell}
 use Rattle.colbase.specs.declared.fault.Fault.TheVariants.{Memory}
 use Rattle.rowtypes.specs.Outputs.{StatesAnswer}
-use Rattle.rowtypes.specs.Rows.{DecodeFails, HasRow, ReadsFrom, each_length, logical_types, shown_from}
+use Rattle.rowtypes.specs.Rows.{DecodeFails, ReadsFrom, each_length, logical_types}
 use Rattle.rowtypes.proofs.Lengths.{has_row}
-use Rattle.rowexec.specs.Rows.{full_cells, types_of}
+use Rattle.rowexec.specs.Rows.{full_cells}
 use Rattle.rowexec.specs.Visits.{DenseColumn}
 use Rattle.rowexec.proofs.Batches.{accepts_same, as_many_types, each_decoded, fails_same, shown_same}
 use Rattle.rowexec.proofs.Dense.{dense_column}
