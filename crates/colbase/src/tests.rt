@@ -1,6 +1,4 @@
 // Worked values. The contracts say the rest.
-mod cast;
-
 use crate::{
     Buffer, DType, ExecutionArgs, ExecutionCtx, Fault, LayoutFault, Name, NativeInt, Nullability,
     PType, PrimitiveArray, Scalar, ScalarValue, Validity, ValidityKind,
@@ -9,6 +7,8 @@ use bitlane::BitBuffer;
 use std::alloc::Global;
 use std::test::Fail;
 
+mod cast;
+mod columns;
 mod constructors;
 mod filter;
 mod scalars;

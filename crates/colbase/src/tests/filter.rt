@@ -7,7 +7,7 @@ use bitlane::BitBuffer;
 use std::alloc::Global;
 use std::test::Fail;
 
-fn truths(alloc: Global, values: &[bool]) -> Result<BitBuffer, Fail> {
+pub fn truths(alloc: Global, values: &[bool]) -> Result<BitBuffer, Fail> {
     Ok(BitBuffer::from_vec(alloc, Vec::from_slice(alloc, values)?)?)
 }
 
@@ -31,7 +31,7 @@ fn number_at(array: &ArrayRef, index: usize, ctx: ExecutionCtx) -> Result<Option
     }
 }
 
-fn shows(array: &ArrayRef, rows: &[Option<i128>], ctx: ExecutionCtx) -> Result<bool, Fail> {
+pub fn shows(array: &ArrayRef, rows: &[Option<i128>], ctx: ExecutionCtx) -> Result<bool, Fail> {
     if array.len() != rows.len() {
         return Ok(false);
     }
@@ -44,7 +44,7 @@ fn shows(array: &ArrayRef, rows: &[Option<i128>], ctx: ExecutionCtx) -> Result<b
 }
 
 // 1, null, 3
-fn three(ctx: ExecutionCtx) -> Result<ArrayRef, Fail> {
+pub fn three(ctx: ExecutionCtx) -> Result<ArrayRef, Fail> {
     let values = Buffer::from_vec(vec![in ctx.alloc(); 1i64, 2, 3]?, ctx)?;
     let valid = Validity::Array(truths(ctx.alloc(), &[true, false, true])?);
     Ok(PrimitiveArray::try_new(values, valid, ctx)?)
