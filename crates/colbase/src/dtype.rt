@@ -8,6 +8,7 @@ use crate::fault::{Fault, Res};
 use crate::name::Name;
 use shared::Shared;
 
+mod default;
 mod equal;
 
 /// An integer type.
