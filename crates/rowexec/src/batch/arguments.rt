@@ -6,6 +6,7 @@ ghost use Rattle.rowexec.specs.Rows.{types_of, wrong_length};
 
 use colbase::{ArrayRef, DType, ExecutionArgs, Fault, Res};
 use rowplan::RowSpec;
+use smallvec::SmallVec;
 use std::alloc::{AllocError, Global};
 
 /// Refuses another number of columns than the function has, and then the first column of another length.
@@ -39,11 +40,14 @@ fn wrong_length(columns: &[ArrayRef], row_count: usize) -> Option<Fault>
     None
 }
 
-/// The types of the columns.
-pub(super) fn argument_types(columns: &[ArrayRef], alloc: Global) -> Result<Vec<DType>, AllocError>
+/// The types of the columns. Those of four arguments take no memory.
+pub(super) fn argument_types(
+    columns: &[ArrayRef],
+    alloc: Global,
+) -> Result<SmallVec<DType, 4>, AllocError>
     ensures { IfOk result (λ v. logical_types v.items ≡ types_of columns.now) }
 {
-    let mut types = Vec::new(alloc);
+    let mut types = SmallVec::new(alloc);
     for column in columns {
         types.push(column.dtype().share())?;
     }

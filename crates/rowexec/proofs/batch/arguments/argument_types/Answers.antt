@@ -15,4 +15,4 @@ loop-column-preserved c =
     let a = c.column-item.result in
     let step = at_drop_more (λ ys. logical_types xs ++ types_of ys) cols i a lt in
     let pushed = type_pushed xs c.share.result a (drop (i + 1) cols) (ap logical_type c.share.ensures ∙ c.dtype.ensures) in
-    ap (λ ys. logical_types ys ++ types_of (drop (i + 1) cols)) c.in_ok-push.ensures.items ∙ pushed ∙ ap (λ x. logical_types xs ++ types_of (x ∷ drop (i + 1) cols)) c.column-item.is ∙ sym step ∙ c.loop-column.invariant
+    ap (λ ys. logical_types ys ++ types_of (drop (i + 1) cols)) c.in_ok-push.ensures.ok ∙ pushed ∙ ap (λ x. logical_types xs ++ types_of (x ∷ drop (i + 1) cols)) c.column-item.is ∙ sym step ∙ c.loop-column.invariant
