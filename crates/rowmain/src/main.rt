@@ -1,7 +1,7 @@
 //! Reads a batch from standard input, and prints the column that it asks for to standard output.
 #![tactic(auto)]
 
-use rowrun::{StdSink, StdSource, run};
+use rowrun::{CallEngine, StdSink, StdSource, run};
 use std::alloc::Global;
 use std::env::Env;
 use std::io::ErrorKind;
@@ -29,5 +29,6 @@ fn main(rt: HostRuntime) -> ExitCode {
     };
     let mut source = StdSource::new(rt.reader());
     let mut sink = StdSink::new(io::writer(&rt));
-    ExitCode::from(run(rt.alloc(), &words, &mut source, &mut sink))
+    let mut engine = CallEngine::new();
+    ExitCode::from(run(rt.alloc(), &words, &mut engine, &mut source, &mut sink))
 }

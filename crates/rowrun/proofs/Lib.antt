@@ -1,7 +1,10 @@
-pub mod Batches
+pub mod Answered
 pub mod Columns
+pub mod FaultNumbers
 pub mod Items
 pub mod JsonText
+pub mod Lifted
 pub mod Lines
 pub mod Marks
 pub mod OnLiterals
+pub mod SameElements

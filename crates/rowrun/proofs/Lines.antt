@@ -1,6 +1,6 @@
 -- The lines of the rows, one after the other.
-use Rattle.std.proofs.Common.{◌≡◌, ℕ, ℤ, ◌+◌, pos, Bool, true, false, List, [], ◌∷◌, ◌++◌, get_or, Option, Some, None, option_map, ap, refl, sym, ◌∙◌, subst, append_assoc}
-use Rattle.std.specs.Prelude.{is_some, if◌then◌else◌}
+use Rattle.std.proofs.Common.{◌≡◌, ℕ, ℤ, ◌+◌, ◌<◌, pos, true, false, List, [], ◌∷◌, ◌++◌, length, get_or, Option, Some, None, option_map, ap, refl, sym, ◌∙◌, append_assoc, arith}
+use Rattle.std.specs.Prelude.{is_some}
 use Rattle.std.specs.List.{flat_map}
 use Rattle.std.proofs.lemmas.List.{append-nil}
 use Rattle.std.proofs.lemmas.Grind.{flat_map-append}
@@ -8,10 +8,8 @@ use Rattle.bitlane.specs.Bits.{tabulate}
 use Rattle.bitlane.proofs.Tables.{tabulate-more}
 use Rattle.colbase.specs.Cell.{Cell, number}
 use Rattle.colbase.specs.LogicalType.{LogicalType}
-use Rattle.colbase.specs.Arrays.{Array, primitive, row}
-use Rattle.colbase.specs.Valid.{valid_at}
-use Rattle.colbase.specs.declared.validity.Validity.{Validity}
-use Rattle.colbase.specs.declared.values.PrimitiveValues.TheVariants.{I64}
+use Rattle.colbase.specs.Arrays.{Array, len, row}
+use Rattle.rowrun.specs.Shows.{Shows}
 use Rattle.rowrun.specs.Text.{line, cell_text}
 
 -- one more row
@@ -27,15 +25,15 @@ number_text : (t u : LogicalType) (cell : Option ℤ) → cell_text t (option_ma
 number_text t u None = refl
 number_text t u (Some z) = refl
 
-shown : (valid : Bool) (c : Cell) → is_some (if valid then Some c else None) ≡ true → Some c ≡ (if valid then Some c else None)
-shown true c e = refl
-shown false c e = cc
+cell_read : (r : Option Cell) (n : Cell) → is_some r ≡ true → ((c : Cell) → r ≡ Some c → n ≡ c) → Some n ≡ r
+cell_read None n e same = cc
+cell_read (Some c) n e same = ap Some (same c refl)
 
--- a row that is not null is the number that is stored there
-pub valid_row : (a : Array) (xs : List ℤ) (v : Validity) (i : ℕ) (x : ℤ) → a ≡ primitive (I64 xs) v → is_some (row a i) ≡ true → x ≡ get_or xs i (pos 0) → Some (number x) ≡ row a i
-valid_row a xs v i x is some e =
-    let here : is_some (row (primitive (I64 xs) v) i) ≡ true = subst (λ (b : Array). is_some (row b i) ≡ true) is some in
-    ap (λ (z : ℤ). Some (number z)) e ∙ shown (valid_at v i) (number (get_or xs i (pos 0))) here ∙ ap (λ (b : Array). row b i) (sym is)
+-- a row that is not null is the number that stands for it
+pub valid_row : (a : Array) (xs : List ℤ) (i : ℕ) (x : ℤ) → Shows a xs → i < length xs → is_some (row a i) ≡ true → x ≡ get_or xs i (pos 0) → Some (number x) ≡ row a i
+valid_row a xs i x shows within some e =
+    let row_within : i < len a = omega (arith, within, shows.counted) in
+    ap (λ (z : ℤ). Some (number z)) e ∙ cell_read (row a i) (number (get_or xs i (pos 0))) some (λ c h. shows.each i c row_within h)
 
 pub null_row : (r : Option Cell) → is_some r ≡ false → None ≡ r
 null_row None e = refl

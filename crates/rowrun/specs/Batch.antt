@@ -5,7 +5,7 @@ use Rattle.std.specs.Str.{bytes_eq, is_utf8}
 use Rattle.serde_json.specs.Data.{Data, Items, no_items, item, Members, no_members, member}
 use Rattle.serde_json.specs.Read.{read}
 use Rattle.serde_json.specs.Find.{get, as_null, as_number, as_i64, as_u64, as_str, as_array, as_object}
-use Rattle.colbase.specs.Arrays.{Array, primitive, len}
+use Rattle.colbase.specs.Arrays.{Array, primitive}
 use Rattle.rowrun.specs.declared.batch.Call.{Call}
 use Rattle.rowrun.specs.declared.batch.Call.TheVariants.{WrappingAdd}
 use Rattle.colbase.specs.declared.validity.Validity.{Validity}
@@ -110,11 +110,6 @@ pub record Batch : Type 0 where
 unfoldable pub call_in : List ℕ → Data → Option Call
 call_in name options = if bytes_eq name (codes "wrapping_add") && has_keys 0 options then Some WrappingAdd else None
 
--- the function's number of columns, each of this many rows
-abbrev pub takes : Call → ℕ → List Array → Bool
-takes WrappingAdd rows (lhs ∷ rhs ∷ []) = (len lhs == rows) && (len rhs == rows)
-takes WrappingAdd rows _ = false
-
 -- the most rows
 abbrev pub max_rows : ℕ
 max_rows = 1048576
@@ -127,7 +122,7 @@ batch_in d = do
   rows ← number_in (codes "rows") d
   items ← array_in (codes "columns") d
   columns ← columns_in items
-  if has_keys 4 d && nat_le rows max_rows && takes call rows columns then Some (record { call = call; row_count = rows; columns = columns }) else None
+  if has_keys 4 d && nat_le rows max_rows then Some (record { call = call; row_count = rows; columns = columns }) else None
 
 -- ---- bytes
 

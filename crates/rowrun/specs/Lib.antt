@@ -1,6 +1,9 @@
 pub mod Batch
 pub mod BatchView
-pub mod Fits
+pub mod Faults
+pub mod Functions
 pub mod Reading
+pub mod Results
+pub mod Shows
 pub mod Text
 pub mod Words

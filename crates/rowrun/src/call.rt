@@ -1,7 +1,11 @@
 // The call from bytes to bytes.
-ghost use Rattle.std.specs.Prelude.{◌≡◌, ◌≤◌, ℕ, List, true, false, map, Some, ⊤, IfOk, string_bytes};
-ghost use Rattle.colbase.specs.Arrays.{column};
-ghost use Rattle.rowexec.specs.WrappingAdd.{IsI64Array};
+ghost use Rattle.std.specs.Prelude.{◌≡◌, ◌≤◌, ◌⊎◌, ℕ, List, true, false, map, Some, ⊤, IfOk, IfErr, string_bytes};
+ghost use Rattle.colbase.specs.Arrays.{column, dtype};
+ghost use Rattle.colbase.specs.Column.{Column};
+ghost use Rattle.colbase.specs.declared.dtype.PType.TheVariants.{I64};
+ghost use Rattle.colbase.specs.declared.fault.Fault as refusals;
+ghost use Rattle.rowtypes.specs.Reading.{is_integer};
+ghost use Rattle.rowexec.specs.Calls.{Raised};
 ghost use Rattle.rowtext.specs.declared.plan.Plan.{Plan};
 ghost use Rattle.rowtext.specs.declared.plan.Plan.TheVariants.{Usage, Unread, Long, Answered};
 ghost use Rattle.rowtext.specs.declared.plan.Answer.TheVariants.{Form, Unbuilt};
@@ -11,15 +15,18 @@ ghost use Rattle.rowtext.specs.Changes.{change, HasFailed, IsSteady, IsUntouched
 ghost use Rattle.rowtext.specs.Outcomes.{Did, Ends, IsAnswer, InputLeads, WroteWhole};
 ghost use Rattle.rowrun.specs.Batch.{Batch as StatedBatch, batch_of};
 ghost use Rattle.rowrun.specs.BatchView.{batch_view};
-ghost use Rattle.rowrun.specs.Fits.{Fits};
+ghost use Rattle.rowrun.specs.Faults.{fault_text};
+ghost use Rattle.rowrun.specs.Results.{CauseOf, HasFault, IsResult};
 ghost use Rattle.rowrun.specs.Text.{text};
-ghost use Rattle.rowrun.specs.Words.{is_run, batch_result, Leads, Cause};
+ghost use Rattle.rowrun.specs.Words.{is_run, Leads, Cause};
 
 use crate::batch::{Batch, Call};
+use crate::fault::fault_text;
+use crate::functions::WrappingAdd;
 use crate::input::{InputStop, read_batch};
 use crate::print::text_of;
-use colbase::{ArrayRef, ExecutionCtx};
-use rowexec::execute_wrapping_add;
+use colbase::{ArrayRef, EmptyOptions, ExecutionCtx, Fault, Res};
+use rowexec::RowEngine;
 use rowtext::{Answer, Command, Sink, Source, Text, TopCall, conduct};
 use std::alloc::{AllocError, Global};
 
@@ -33,23 +40,25 @@ fn is_run(words: &[String]) -> bool
     words[0].as_str() == "run"
 }
 
-/// The column that the batch asks for.
-fn execute(batch: &Batch, ctx: ExecutionCtx) -> Result<ArrayRef, AllocError>
-    requires { Fits batch.now.call batch.now.args.columns batch.now.args.row_count }
-    ensures column { IfOk result (λ array. column array ≡ batch_result (batch_view batch.now)) }
-    ensures layout { IfOk result (λ array. IsI64Array array) }
+/// The column that the batch asks for, as the engine answers it.
+fn execute<E: RowEngine>(engine: &mut E, batch: &Batch, ctx: ExecutionCtx) -> Res<ArrayRef>
+    ensures called { Raised (E.calls engine.old) (E.calls engine.new) }
+    ensures column { IfOk result (λ array. IsResult (batch_view batch.now) (column array)) }
+    ensures i64 { IfOk result (λ array. is_integer I64 (dtype array) ≡ true) }
+    ensures cause { IfErr result (CauseOf batch.now.call batch.now.args.row_count batch.now.args.columns) }
 {
     match batch.call {
-        Call::WrappingAdd => match execute_wrapping_add(&batch.args, ctx) {
-            Ok(array) => Ok(array),
-            Err(_) => Err(AllocError),
-        },
+        Call::WrappingAdd => engine.execute(&WrappingAdd, &EmptyOptions, &batch.args, ctx),
     }
 }
 
 /// What all the bytes of an input lead to.
-fn answer_to(bytes: &[u8], ctx: ExecutionCtx) -> Result<Answer, AllocError>
-    ensures { IfOk result (λ answer. Leads bytes.now answer) }
+fn answer_to<E: RowEngine>(
+    engine: &mut E,
+    bytes: &[u8],
+    ctx: ExecutionCtx,
+) -> Result<Answer, AllocError>
+    ensures { IfOk result (λ answer. Leads (Raised (E.calls engine.old) (E.calls engine.new)) bytes.now answer) }
 {
     let batch = match read_batch(bytes, ctx) {
         Ok(batch) => batch,
@@ -57,21 +66,25 @@ fn answer_to(bytes: &[u8], ctx: ExecutionCtx) -> Result<Answer, AllocError>
         Err(InputStop::Form) => return Ok(Answer::Form),
         Err(InputStop::Unbuilt) => return Ok(Answer::Unbuilt),
     };
-    let result = execute(&batch, ctx)?;
-    Ok(Answer::Printed(Text::new(text_of(&result, ctx)?)))
+    match execute(engine, &batch, ctx) {
+        Ok(column) => Ok(Answer::Printed(Text::new(text_of(&column, ctx)?))),
+        Err(Fault::Memory) => Err(AllocError),
+        Err(fault) => Ok(Answer::Fault(Text::new(fault_text(ctx.alloc(), fault)?))),
+    }
 }
 
 /// The call that knows the word `run`.
 #[derive(Drop)]
 struct Rows;
 
-impl TopCall<()> for Rows {
+impl<E: RowEngine> TopCall<E> for Rows {
+    ghost use Rattle.rowexec.specs.Calls.{Raised};
     ghost use Rattle.rowtext.specs.Causes.{input_command};
     ghost use Rattle.rowrun.specs.Words.{is_run, Leads};
 
     ghost command = { λ _ words. input_command (is_run words) };
 
-    ghost input_leads = { λ _ _ _ _ bytes answer. Leads bytes answer };
+    ghost input_leads = { λ _ old new _ bytes answer. Leads (Raised (E.calls old) (E.calls new)) bytes answer };
 
     fn command(&self, words: &[String]) -> Command {
         if is_run(words) {
@@ -85,51 +98,65 @@ impl TopCall<()> for Rows {
         &self,
         alloc: Global,
         words: &[String],
-        engine: &mut (),
+        engine: &mut E,
         bytes: &[u8],
     ) -> Result<Answer, AllocError> {
-        answer_to(bytes, ExecutionCtx::new(alloc))
+        answer_to(engine, bytes, ExecutionCtx::new(alloc))
     }
 }
 
 /// Reads all of the source, answers it, and writes the answer to the sink. The result is the status of the program.
 ///
 /// The words are those after the program's name; the one word `run` is known. The input is one JSON value that states a
-/// batch. The whole text stands before its first byte is written, and writing takes no memory.
+/// batch, whose call the engine executes. The whole text stands before its first byte is written, and writing takes no memory.
 ///
 /// | Status | Written | When |
 /// |---|---|---|
-/// | 0 | the text of the result | the input states a batch |
+/// | 0 | the text of the result | the input states a batch, and the engine answered a column |
 /// | 1 | `usage` | the words aren't the one word `run` |
 /// | 2 | `form` | the input is no JSON value |
+/// | 3 | `fault`, the fault's name and its numbers | the input states a batch, and the engine answered a fault |
 /// | 4 | nothing | want of memory |
 /// | 5 | `read` | the source failed |
 /// | 6 | a proper prefix of the text | the sink failed |
 /// | 7 | `long` | the input has more than 67,108,864 bytes |
 /// | 8 | `unbuilt` | the input is a JSON value that states no batch of the forms that are built |
-pub fn run<S: Source, K: Sink>(alloc: Global, words: &[String], source: &mut S, sink: &mut K) -> u8
+pub fn run<E: RowEngine, S: Source, K: Sink>(
+    alloc: Global,
+    words: &[String],
+    engine: &mut E,
+    source: &mut S,
+    sink: &mut K,
+) -> u8
     // Each status has its cause, and what was written goes with it.
-    ensures ends { Ends (Cause words.now (change S.left S.faults source.old source.new)) result (change K.held K.faults sink.old sink.new) }
+    ensures ends { Ends (Cause (Raised (E.calls engine.old) (E.calls engine.new)) words.now (change S.left S.faults source.old source.new)) result (change K.held K.faults sink.old sink.new) }
+
+    // Statuses 0 and 3: the engine was called.
+    ensures called { (result ≡ 0) ⊎ (result ≡ 3) → Raised (E.calls engine.old) (E.calls engine.new) }
 
     // Status 0: all was read, the bytes state a batch, and exactly the text of its result was written.
     ensures done { result ≡ 0 → TookAll (change S.left S.faults source.old source.new)
-        (λ bytes. (b : StatedBatch) × (batch_of bytes ≡ Some b) × Gained (change K.held K.faults sink.old sink.new) (text (batch_result b))) }
+        (λ bytes. (b : StatedBatch) × (batch_of bytes ≡ Some b) × (c : Column) × IsResult b c × Gained (change K.held K.faults sink.old sink.new) (text c)) }
+
+    // Status 3: all was read, the bytes state a batch, and exactly the line of a fault that has its cause for it was written.
+    ensures fault { result ≡ 3 → TookAll (change S.left S.faults source.old source.new)
+        (λ bytes. (b : StatedBatch) × (batch_of bytes ≡ Some b) × (e : refusals.Fault) × HasFault b e × Gained (change K.held K.faults sink.old sink.new) (fault_text e)) }
 
     // Statuses 1, 2, 5, 7 and 8: the cause, and the word.
-    ensures usage { result ≡ 1 → Did (Cause words.now (change S.left S.faults source.old source.new)) (change K.held K.faults sink.old sink.new) Usage }
-    ensures form { result ≡ 2 → Did (Cause words.now (change S.left S.faults source.old source.new)) (change K.held K.faults sink.old sink.new) (Answered Form) }
-    ensures unread { result ≡ 5 → Did (Cause words.now (change S.left S.faults source.old source.new)) (change K.held K.faults sink.old sink.new) Unread }
-    ensures long { result ≡ 7 → Did (Cause words.now (change S.left S.faults source.old source.new)) (change K.held K.faults sink.old sink.new) Long }
-    ensures unbuilt { result ≡ 8 → Did (Cause words.now (change S.left S.faults source.old source.new)) (change K.held K.faults sink.old sink.new) (Answered Unbuilt) }
+    ensures usage { result ≡ 1 → Did (Cause (Raised (E.calls engine.old) (E.calls engine.new)) words.now (change S.left S.faults source.old source.new)) (change K.held K.faults sink.old sink.new) Usage }
+    ensures form { result ≡ 2 → Did (Cause (Raised (E.calls engine.old) (E.calls engine.new)) words.now (change S.left S.faults source.old source.new)) (change K.held K.faults sink.old sink.new) (Answered Form) }
+    ensures unread { result ≡ 5 → Did (Cause (Raised (E.calls engine.old) (E.calls engine.new)) words.now (change S.left S.faults source.old source.new)) (change K.held K.faults sink.old sink.new) Unread }
+    ensures long { result ≡ 7 → Did (Cause (Raised (E.calls engine.old) (E.calls engine.new)) words.now (change S.left S.faults source.old source.new)) (change K.held K.faults sink.old sink.new) Long }
+    ensures unbuilt { result ≡ 8 → Did (Cause (Raised (E.calls engine.old) (E.calls engine.new)) words.now (change S.left S.faults source.old source.new)) (change K.held K.faults sink.old sink.new) (Answered Unbuilt) }
 
     // Status 6: the sink failed, before the whole of a text that has its cause.
-    ensures cut { result ≡ 6 → (plan : Plan) × Cause words.now (change S.left S.faults source.old source.new) plan
+    ensures cut { result ≡ 6 → (plan : Plan) × Cause (Raised (E.calls engine.old) (E.calls engine.new)) words.now (change S.left S.faults source.old source.new) plan
         × HasFailed (change K.held K.faults sink.old sink.new)
         × (prefix : List ℕ) × IsProperPrefix prefix (plan_text plan) × Gained (change K.held K.faults sink.old sink.new) prefix }
 
     // Status 4: nothing was written.
     ensures memory { result ≡ 4 → IsUntouched (change K.held K.faults sink.old sink.new) }
-    ensures no_others { (result ≡ 3 → ⊥) × (result ≤ 8) }
+    ensures no_others { result ≤ 8 }
 
     // Other words give status 1, unless the sink fails.
     ensures refused { is_run (map string_bytes words.now) ≡ false → IsSteady (change K.held K.faults sink.old sink.new)
@@ -143,15 +170,15 @@ pub fn run<S: Source, K: Sink>(alloc: Global, words: &[String], source: &mut S, 
     // Where all the bytes were taken and the status is not that of a failed reading, they alone decide, unless the sink fails.
     ensures exact { (bytes : List ℕ) → is_run (map string_bytes words.now) ≡ true → S.left source.old ≡ Some bytes
         → TookAll (change S.left S.faults source.old source.new) (λ b. ⊤) → (result ≡ 5 → ⊥) → IsSteady (change K.held K.faults sink.old sink.new)
-        → WroteWhole (IsAnswer (Leads bytes)) result (change K.held K.faults sink.old sink.new) }
+        → WroteWhole (IsAnswer (Leads (Raised (E.calls engine.old) (E.calls engine.new)) bytes)) result (change K.held K.faults sink.old sink.new) }
 
     // Where nothing fails, the input alone decides, unless memory runs out.
     ensures complete { (bytes : List ℕ) → is_run (map string_bytes words.now) ≡ true → S.left source.old ≡ Some bytes
         → IsSteady (change S.left S.faults source.old source.new) → IsSteady (change K.held K.faults sink.old sink.new)
-        → WroteWhole (InputLeads Leads bytes) result (change K.held K.faults sink.old sink.new) }
+        → WroteWhole (InputLeads (Leads (Raised (E.calls engine.old) (E.calls engine.new))) bytes) result (change K.held K.faults sink.old sink.new) }
 
     ensures source_faults { S.faults source.old ≤ S.faults source.new }
     ensures sink_faults { K.faults sink.old ≤ K.faults sink.new }
 {
-    conduct(alloc, words, &Rows, &mut (), source, sink)
+    conduct(alloc, words, &Rows, engine, source, sink)
 }

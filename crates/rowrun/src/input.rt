@@ -1,10 +1,8 @@
 // A batch from the bytes that state it.
 ghost use Rattle.std.specs.Prelude.{◌≡◌, IfOk, IsErrOf, IsSome, Some, None};
 ghost use Rattle.serde_json.specs.View.{view, items_view};
-ghost use Rattle.colbase.specs.Arrays.{len};
-ghost use Rattle.rowrun.specs.Batch.{call_in, columns_in, takes, batch_in, json_of, batch_of};
+ghost use Rattle.rowrun.specs.Batch.{call_in, columns_in, batch_in, json_of, batch_of};
 ghost use Rattle.rowrun.specs.BatchView.{batch_view};
-ghost use Rattle.rowrun.specs.Fits.{Fits};
 ghost use Rattle.rowrun.specs.Reading.{Gives};
 
 use crate::batch::{Batch, Call};
@@ -48,21 +46,9 @@ fn columns_in(items: &[Value], ctx: ExecutionCtx) -> Result<Vec<ArrayRef>, Stop>
     Ok(columns)
 }
 
-/// Whether the call takes so many columns of so many rows.
-fn takes(call: Call, rows: u64, columns: &[ArrayRef]) -> bool
-    ensures { result ≡ takes call rows columns.now }
-{
-    match call {
-        Call::WrappingAdd => {
-            columns.len() == 2 && columns[0].len() as u64 == rows && columns[1].len() as u64 == rows
-        }
-    }
-}
-
 #[tactic(auto, unfolding(crate::specs::Batch::batch_in))]
 fn batch_in(value: &Value, ctx: ExecutionCtx) -> Result<Batch, Stop>
-    ensures read { Gives batch_view result (batch_in (view value.now)) }
-    ensures fits { IfOk result (λ b. Fits b.call b.args.columns b.args.row_count) }
+    ensures { Gives batch_view result (batch_in (view value.now)) }
 {
     let name = text_in(value, "call").ok_or(Stop::NoBatch)?;
     let options = value.get("options").ok_or(Stop::NoBatch)?;
@@ -70,7 +56,7 @@ fn batch_in(value: &Value, ctx: ExecutionCtx) -> Result<Batch, Stop>
     let rows = number_in(value, "rows").ok_or(Stop::NoBatch)?;
     let items = array_in(value, "columns").ok_or(Stop::NoBatch)?;
     let columns = columns_in(items, ctx)?;
-    if has_keys(value, 4) && rows <= MAX_ROWS && takes(call, rows, &columns) {
+    if has_keys(value, 4) && rows <= MAX_ROWS {
         Ok(Batch {
             call,
             args: ExecutionArgs::new(columns, rows as usize),
@@ -84,7 +70,6 @@ fn batch_in(value: &Value, ctx: ExecutionCtx) -> Result<Batch, Stop>
 #[tactic(auto, unfolding(crate::specs::Batch::batch_of))]
 pub(crate) fn read_batch(bytes: &[u8], ctx: ExecutionCtx) -> Result<Batch, InputStop>
     ensures ok { IfOk result (λ b. batch_of bytes.now ≡ Some (batch_view b)) }
-    ensures fits { IfOk result (λ b. Fits b.call b.args.columns b.args.row_count) }
     ensures form { IsErrOf result InputStop.Form → json_of bytes.now ≡ None }
     ensures unbuilt { IsErrOf result InputStop.Unbuilt → IsSome (json_of bytes.now) }
     ensures no_batch { IsErrOf result InputStop.Unbuilt → batch_of bytes.now ≡ None }

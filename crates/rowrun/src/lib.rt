@@ -4,11 +4,15 @@
 mod batch;
 mod call;
 mod column;
+mod fault;
+mod functions;
 mod input;
 mod print;
 mod tree;
 
 pub use call::run;
+pub use functions::WrappingAdd;
+pub use rowexec::{CallEngine, RowEngine};
 pub use rowtext::{
     MemorySink, MemorySource, NullSink, Sink, SinkFailed, Source, SourceFailed, StdSink, StdSource,
     SteadySource,

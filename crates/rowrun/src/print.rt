@@ -1,17 +1,20 @@
 // The text of a column.
-ghost use Rattle.std.specs.Prelude.{◌≡◌, ◌++◌, ◌<◌, length, option_map, IfOk, OnOk};
+ghost use Rattle.std.specs.Prelude.{◌≡◌, ◌++◌, ◌<◌, ℕ, length, true, option_map, IfOk, OnOk};
 ghost use Rattle.std.specs.List.{flat_map};
 ghost use Rattle.colbase.specs.declared.dtype.PType.TheVariants.{I64};
 ghost use Rattle.colbase.specs.declared.dtype.Nullability.TheVariants.{Nullable};
 ghost use Rattle.colbase.specs.declared.values.PrimitiveValues.TheVariants.{I64 as Numbers};
 ghost use Rattle.colbase.specs.Cell.{number};
 ghost use Rattle.colbase.specs.LogicalType.{primitive};
-ghost use Rattle.colbase.specs.Arrays.{primitive as primitive_array, column, dtype, row, rows, len};
-ghost use Rattle.colbase.specs.Parts.{own_validity};
-ghost use Rattle.rowexec.specs.WrappingAdd.{IsI64Array};
+ghost use Rattle.colbase.specs.Arrays.{column, dtype, row, rows, len};
+ghost use Rattle.colbase.specs.Values.{number_at};
+ghost use Rattle.rowtypes.specs.Elements.{shown_number};
+ghost use Rattle.rowtypes.specs.Reading.{is_integer};
 ghost use Rattle.rowrun.specs.Text.{text, line, type_text, cell_text};
+ghost use Rattle.rowrun.specs.Shows.{Shows};
 
-use colbase::{ArrayRef, Buffer, ExecutionCtx, NativeInt, Nullability};
+use colbase::{ArrayRef, Buffer, ExecutionCtx, Nullability};
+use rowtypes::InputElement;
 use std::alloc::AllocError;
 
 /// Room for a row's line, to begin with.
@@ -40,20 +43,18 @@ fn push_line(out: &mut Vec<u8>, cell: Option<i64>) -> Result<(), AllocError>
     Ok(())
 }
 
-/// The numbers of an `i64` column, those under nulls included.
-fn numbers_of(array: &ArrayRef) -> &Buffer<i64>
-    requires { IsI64Array array.now }
-    ensures { array.now ≡ primitive_array (Numbers result.now) (own_validity array.now) }
+/// The numbers of an `i64` column, at each row that isn't null its cell.
+fn numbers_of(array: &ArrayRef, ctx: ExecutionCtx) -> Result<Buffer<i64>, AllocError>
+    requires { is_integer I64 (dtype array.now) ≡ true }
+    ensures { IfOk result (Shows array.now) }
 {
-    match i64::values_of(array) {
-        Some(values) => values,
-        None => unreachable!(),
-    }
+    // Each cell of the type is read, so that memory alone can be wanting.
+    i64::decode(array, ctx).map_err(|_| AllocError)
 }
 
 /// The number or null of a row.
 fn cell_at(array: &ArrayRef, values: &[i64], index: usize) -> Option<i64>
-    requires layout { array.now ≡ primitive_array (Numbers values.now) (own_validity array.now) }
+    requires shows { Shows array.now values.now }
     requires within { index < length values.now }
     ensures { option_map number result ≡ row array.now index }
 {
@@ -66,7 +67,7 @@ fn cell_at(array: &ArrayRef, values: &[i64], index: usize) -> Option<i64>
 
 /// Appends a line for each row.
 fn push_rows(out: &mut Vec<u8>, array: &ArrayRef, values: &[i64]) -> Result<(), AllocError>
-    requires { array.now ≡ primitive_array (Numbers values.now) (own_validity array.now) }
+    requires { Shows array.now values.now }
     ensures { OnOk result (out.new.items ≡ out.old.items ++ flat_map (λ cell. line (cell_text (dtype array.now) cell)) (rows array.now)) }
 {
     for i in 0..values.len() {
@@ -75,12 +76,13 @@ fn push_rows(out: &mut Vec<u8>, array: &ArrayRef, values: &[i64]) -> Result<(), 
     Ok(())
 }
 
-/// The text of an `i64` column of the primitive layout: its type's line, and a line for each row.
+/// The text of an `i64` column of any layout: its type's line, and a line for each row.
 pub(crate) fn text_of(array: &ArrayRef, ctx: ExecutionCtx) -> Result<Vec<u8>, AllocError>
-    requires { IsI64Array array.now }
+    requires { is_integer I64 (dtype array.now) ≡ true }
     ensures { IfOk result (λ v. v.items ≡ text (column array.now)) }
 {
-    let values = numbers_of(array).as_slice();
+    let numbers = numbers_of(array, ctx)?;
+    let values = numbers.as_slice();
     let room = values.len().saturating_mul(ROOM_PER_ROW);
     let mut out = Vec::with_capacity(ctx.alloc(), room)?;
     push_type_line(&mut out, array.dtype().nullability())?;

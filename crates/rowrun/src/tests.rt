@@ -1,6 +1,8 @@
 // Worked batches and their texts, and what a call does where its source or its sink fails.
 ghost use Rattle.std.specs.Prelude.{◌<◌, ◌≡◌, length, IfOk};
 
+mod called;
+
 use super::*;
 use std::alloc::{AllocError, Global};
 use std::test::Fail;
@@ -56,7 +58,13 @@ fn ended(
     let mut source = MemorySource::new(input, outside.source_piece, fails);
     let fails = outside.sink_fails.to_vec(alloc)?;
     let mut sink = MemorySink::new(alloc, 99, outside.sink_piece, fails)?;
-    let status = run(alloc, &given, &mut source, &mut sink);
+    let status = run(
+        alloc,
+        &given,
+        &mut CallEngine::new(),
+        &mut source,
+        &mut sink,
+    );
     Ok((status, sink.bytes().to_vec(alloc)?))
 }
 
@@ -211,11 +219,6 @@ fn other_columns_are_not_built(rt: HostRuntime) -> Result<(), Fail> {
             "\"type\":\"i64\",\"values\":[1],\"layout\":\"primitive\"",
             0,
         ),
-        ("\"layout\":\"primitive\",\"type\":\"i64\",\"values\":[]", 8),
-        (
-            "\"layout\":\"primitive\",\"type\":\"i64\",\"values\":[1,2]",
-            8,
-        ),
         ("\"layout\":\"primitive\",\"type\":\"i64\",\"values\":{}", 8),
         ("\"layout\":\"primitive\",\"type\":\"i64\"", 8),
         ("\"layout\":\"primitive\",\"values\":[1]", 8),
@@ -280,7 +283,6 @@ fn other_batches_are_not_built(rt: HostRuntime) -> Result<(), Fail> {
         (&["\"checked_add\"", "{}", "1"], "", 8),
         (&["\"wrapping_add\"", "{}", "1.0"], "", 8),
         (&["\"wrapping_add\"", "{}", "-1"], "", 8),
-        (&["\"wrapping_add\"", "{}", "0"], "", 8),
     ] {
         let input = batch(alloc, head, &two, more)?;
         let (status, held) = answered(alloc, input.as_bytes())?;
@@ -292,13 +294,8 @@ fn other_batches_are_not_built(rt: HostRuntime) -> Result<(), Fail> {
 }
 
 #[test]
-fn another_number_of_columns_is_not_built(rt: HostRuntime) -> Result<(), Fail> {
+fn other_values_are_no_batch(rt: HostRuntime) -> Result<(), Fail> {
     let alloc = rt.alloc();
-    let three = format!(in alloc; "{ONE},{ONE},{ONE}")?;
-    for columns in ["", ONE, three.as_str()] {
-        let (status, _) = answered(alloc, batch(alloc, HEAD, columns, "")?.as_bytes())?;
-        assert_eq!(rt; status, 8, "{columns}");
-    }
     for input in ["[]", "null", "{}", "7", "\"run\""] {
         assert_eq!(rt; answered(alloc, input.as_bytes())?.0, 8, "{input}");
     }
@@ -329,6 +326,15 @@ fn a_steady_source_and_a_null_sink_serve(rt: HostRuntime) -> Result<(), Fail> {
     let mut words = Vec::new(alloc);
     words.push(String::from_str(alloc, "run")?)?;
     let mut source = SteadySource::new(THREE.as_bytes().to_vec(alloc)?);
-    assert_eq!(rt; run(alloc, &words, &mut source, &mut NullSink), 0);
+    assert_eq!(rt;
+        run(
+            alloc,
+            &words,
+            &mut CallEngine::new(),
+            &mut source,
+            &mut NullSink
+        ),
+        0
+    );
     Ok(())
 }

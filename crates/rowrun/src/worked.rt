@@ -66,7 +66,9 @@ fn bytes_state_the_worked_batches()
         ≡ Some (record { call = WrappingAdd; row_count = 0; columns = array (Numbers []) validity.NonNullable ∷ array (Numbers []) validity.AllValid ∷ [] }) }
     ensures three { batch_of (codes "{\"call\":\"wrapping_add\",\"options\":{},\"rows\":3,\"columns\":[{\"layout\":\"primitive\",\"type\":\"i64?\",\"values\":[1,null,3]},{\"layout\":\"primitive\",\"type\":\"i64\",\"values\":[10,20,30]}]}")
         ≡ Some (record { call = WrappingAdd; row_count = 3; columns = array (Numbers (pos 1 ∷ pos 0 ∷ pos 3 ∷ [])) (validity.Array (true ∷ false ∷ true ∷ [])) ∷ array (Numbers (pos 10 ∷ pos 20 ∷ pos 30 ∷ [])) validity.NonNullable ∷ [] }) }
-    ensures one_column { batch_of (codes "{\"call\":\"wrapping_add\",\"options\":{},\"rows\":0,\"columns\":[{\"layout\":\"primitive\",\"type\":\"i64\",\"values\":[]}]}") ≡ None }
+    ensures no_columns { batch_of (codes "{\"call\":\"wrapping_add\",\"options\":{},\"rows\":3,\"columns\":[]}") ≡ Some (record { call = WrappingAdd; row_count = 3; columns = [] }) }
+    ensures one_column { batch_of (codes "{\"call\":\"wrapping_add\",\"options\":{},\"rows\":0,\"columns\":[{\"layout\":\"primitive\",\"type\":\"i64\",\"values\":[]}]}")
+        ≡ Some (record { call = WrappingAdd; row_count = 0; columns = array (Numbers []) validity.NonNullable ∷ [] }) }
     ensures no_json { json_of (codes "{\"call\":\"wrapping_add\",\"options\":{},\"ro") ≡ None }
 {}
 

@@ -6,7 +6,7 @@ use Rattle.rowrun.proofs.print.cell_at.Goals as goal
 pub returns-then-is_valid : goal.returns-then-is_valid
 returns-then-is_valid c =
     let fits : SFits w64 (get_or c.args.values.now c.args.index (pos 0)) = search rules in
-    simp to_z-of_z (valid_row c.args.array.now c.args.values.now _ c.args.index _ c.requires.layout (sym c.is_valid.ensures ∙ c.if-is_valid.true) refl)
+    simp to_z-of_z (valid_row c.args.array.now c.args.values.now c.args.index _ c.requires.shows c.requires.within (sym c.is_valid.ensures ∙ c.if-is_valid.true) refl)
 
 pub returns-else-is_valid : goal.returns-else-is_valid
 returns-else-is_valid c = null_row _ (sym c.is_valid.ensures ∙ c.if-is_valid.false)

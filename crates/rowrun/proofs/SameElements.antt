@@ -1,0 +1,29 @@
+-- The elements of a tuple of two `i64`, place by place.
+use Rattle.std.proofs.Common.{◌≡◌, ℕ, zero, suc, List, [], ◌∷◌, length, refl, ap}
+use Rattle.std.specs.Prelude.{◌↔◌}
+use Rattle.colbase.specs.Arrays.{Array}
+use Rattle.colbase.specs.Cell.{Cell}
+use Rattle.colbase.specs.LogicalType.{LogicalType}
+use Rattle.colbase.specs.declared.dtype.DType.{DType}
+use Rattle.colbase.specs.declared.dtype.PType.TheVariants.{I64}
+use Rattle.rowtypes.specs.Arguments.{pick_two, reads_two}
+use Rattle.rowtypes.specs.Elements.{shown_number}
+use Rattle.rowtypes.specs.Reading.{is_integer, IsNumberOf}
+use Rattle.rowtypes.specs.Rows.{logical_types}
+use Rattle.rowrun.specs.Functions.{accepts_i64, reads_i64, shown_i64}
+
+pub as_many : (types : List DType) → length (logical_types types) ≡ length types
+as_many [] = refl
+as_many (t ∷ types) = ap suc (as_many types)
+
+pub accepts_each : (k : ℕ) (t : LogicalType) → pick_two (is_integer I64) (is_integer I64) k t ≡ accepts_i64 k t
+accepts_each zero t = refl
+accepts_each (suc k) t = refl
+
+pub reads_each : (k : ℕ) (c : Cell) → reads_two (IsNumberOf I64) (IsNumberOf I64) k c ↔ reads_i64 k c
+reads_each zero c = (λ h. h, λ h. h)
+reads_each (suc k) c = (λ h. h, λ h. h)
+
+pub shows_each : (k : ℕ) (a : Array) (i : ℕ) → pick_two shown_number shown_number k a i ≡ shown_i64 k a i
+shows_each zero a i = refl
+shows_each (suc k) a i = refl

@@ -1,0 +1,39 @@
+-- What the call of a batch answers: the column that is its result, or the faults that have a cause.
+use Rattle.std.specs.Prelude.{◌≡◌, ℕ, ◌<◌, Bool, true, List, length, get_or, Option, None}
+use Rattle.colbase.specs.Arrays.{Array}
+use Rattle.colbase.specs.Cell.{Cell}
+use Rattle.colbase.specs.Column.{Column}
+use Rattle.colbase.specs.LogicalType.{LogicalType}
+use Rattle.colbase.specs.declared.fault.Fault.{Fault}
+use Rattle.colbase.specs.declared.fault.Fault.TheVariants.{Memory}
+use Rattle.rowplan.specs.Outcomes.{Outcome}
+use Rattle.rowplan.specs.Outputs.{Output}
+use Rattle.rowexec.specs.Batch.{Cause, Fits, Planned, StatedAs}
+use Rattle.rowexec.specs.Rows.{StrictRow, full_cells, types_of}
+use Rattle.rowrun.specs.Batch.{Batch}
+use Rattle.rowrun.specs.Functions.{accepts_i64, i64_output, never_refused, reads_i64, wrapping_sums}
+use Rattle.rowrun.specs.declared.batch.Call.{Call}
+use Rattle.rowrun.specs.declared.batch.Call.TheVariants.{WrappingAdd}
+
+-- The column is the strict lifting of a row function to n rows of columns that it takes, in the stated type.
+pub record ResultOf {E : Type 0} (finish : E → Option ℕ) (meaning : List Cell → Outcome E) (accepts : Bool) (fits : ℕ → LogicalType → Bool) (output : Output) (arity n : ℕ) (columns : List Array) (c : Column) : Type 0 where
+  pub fit : Fits arity n columns
+  pub planned : Planned accepts fits output (types_of columns)
+  pub stated : StatedAs output (types_of columns) c.dtype
+  pub counted : length c.rows ≡ n
+  pub each : (i : ℕ) → i < n → StrictRow finish meaning (full_cells columns i) (get_or c.rows i None)
+
+abbrev pub IsResultOf : Call → ℕ → List Array → Column → Type 0
+IsResultOf WrappingAdd n columns c = ResultOf never_refused wrapping_sums true accepts_i64 i64_output 2 n columns c
+
+-- the column that the batch asks for
+abbrev pub IsResult : Batch → Column → Type 0
+IsResult b c = IsResultOf b.call b.row_count b.columns c
+
+abbrev pub CauseOf : Call → ℕ → List Array → Fault → Type 0
+CauseOf WrappingAdd n columns f = Cause 2 n columns true accepts_i64 i64_output reads_i64 f
+
+-- the called function refuses the batch with this fault; want of memory is told by a status of its own
+pub record HasFault (b : Batch) (f : Fault) : Type 0 where
+  pub told : f ≡ Memory → ⊥
+  pub cause : CauseOf b.call b.row_count b.columns f
