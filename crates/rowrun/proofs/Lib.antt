@@ -1,7 +1,7 @@
 pub mod Batches
-pub mod Columns
 pub mod Items
 pub mod JsonText
 pub mod Lines
-pub mod Marks
+pub mod Names
 pub mod OnLiterals
+pub mod Ranges

@@ -2,8 +2,9 @@
 ghost use Rattle.std.specs.Prelude.{◌≡◌, IfOk, IsErrOf, IsSome, Some, None};
 ghost use Rattle.serde_json.specs.View.{view, items_view};
 ghost use Rattle.colbase.specs.Arrays.{len};
-ghost use Rattle.rowrun.specs.Batch.{call_in, columns_in, takes, batch_in, json_of, batch_of};
+ghost use Rattle.rowrun.specs.Batch.{call_in, takes, batch_in, json_of, batch_of};
 ghost use Rattle.rowrun.specs.BatchView.{batch_view};
+ghost use Rattle.rowrun.specs.Columns.{columns_in};
 ghost use Rattle.rowrun.specs.Fits.{Fits};
 ghost use Rattle.rowrun.specs.Reading.{Gives};
 

@@ -1,6 +1,8 @@
 // Worked batches and their texts, and what a call does where its source or its sink fails.
 ghost use Rattle.std.specs.Prelude.{◌<◌, ◌≡◌, length, IfOk};
 
+mod columns;
+
 use super::*;
 use std::alloc::{AllocError, Global};
 use std::test::Fail;
@@ -220,15 +222,6 @@ fn other_columns_are_not_built(rt: HostRuntime) -> Result<(), Fail> {
         ("\"layout\":\"primitive\",\"type\":\"i64\"", 8),
         ("\"layout\":\"primitive\",\"values\":[1]", 8),
         ("\"type\":\"i64\",\"values\":[1]", 8),
-        (
-            "\"layout\":\"primitive\",\"type\":\"i64?\",\"values\":[1],\"valid\":[true]",
-            8,
-        ),
-        (
-            "\"layout\":\"primitive\",\"type\":\"i32\",\"values\":[1]",
-            8,
-        ),
-        ("\"layout\":\"bool\",\"type\":\"bool\",\"values\":[true]", 8),
         (
             "\"layout\":\"constant\",\"type\":\"i64\",\"value\":1,\"len\":1",
             8,
