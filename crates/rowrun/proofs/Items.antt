@@ -1,12 +1,12 @@
 -- What the items of a JSON array state, read one after the other.
-use Rattle.std.proofs.Common.{◌≡◌, ℕ, ℤ, ◌+◌, ◌<◌, Bool, List, [], ◌∷◌, ◌++◌, length, drop, get_or, map, Option, Some, None, option_map, option_and_then, ap, refl, sym, ◌∙◌, append_assoc}
+use Rattle.std.proofs.Common.{◌≡◌, ℕ, ◌+◌, ◌<◌, Bool, List, [], ◌∷◌, ◌++◌, length, drop, get_or, map, Option, Some, None, option_map, option_and_then, ap, refl, sym, ◌∙◌, append_assoc}
 use Rattle.std.proofs.lemmas.List.{drop_more, append-nil, map-append}
 use Rattle.serde_json.specs.Data.{Data}
 use Rattle.serde_json.specs.View.{items_view, view}
 use Rattle.serde_json.specs.declared.value.Value.{Value}
-use Rattle.std.specs.Prelude.{unwrap_or, is_some, pos}
-use Rattle.colbase.specs.declared.dtype.Nullability.TheVariants.{Nullable}
-use Rattle.rowrun.specs.Batch.{all_in, i64_cell, i64_cells, stored_numbers}
+use Rattle.std.specs.Prelude.{unwrap_or, is_some}
+use Rattle.rowrun.specs.Columns.{stored_values}
+use Rattle.rowrun.specs.Objects.{all_in}
 use Rattle.rowrun.specs.Reading.{AreOf}
 
 -- what was read so far, before what the rest gives
@@ -41,26 +41,22 @@ all_end {X} f values i front whole is e =
     ∙ ap (λ (rest : List Value). with_front front (all_in f (items_view rest))) (drop_end values)
     ∙ ap Some (append-nil front)
 
--- the numbers and marks read so far are those of some cells, before what the rest gives
-pub record HasRead (values : List ℤ) (valid : List Bool) (rest whole : Option (List (Option ℤ))) : Type 0 where
-  pub cells : List (Option ℤ)
-  pub are : AreOf cells values valid
+-- what was stored and marked so far is that of some cells, before what the rest gives
+pub record HasRead {X : Type 0} (under_null : X) (stored : List X) (marks : List Bool) (rest whole : Option (List (Option X))) : Type 0 where
+  pub cells : List (Option X)
+  pub are : AreOf under_null cells stored marks
   pub front : with_front cells rest ≡ whole
 
-pub read_more : (items : List Value) (i : ℕ) (item : Value) (values values' : List ℤ) (valid valid' : List Bool) (cell : Option ℤ) (whole : Option (List (Option ℤ)))
-    → i < length items → item ≡ get_or items i item → i64_cell Nullable (view item) ≡ Some cell
-    → values' ≡ values ++ unwrap_or cell (pos 0) ∷ [] → valid' ≡ valid ++ is_some cell ∷ []
-    → HasRead values valid (i64_cells Nullable (items_view (drop i items))) whole
-    → HasRead values' valid' (i64_cells Nullable (items_view (drop (i + 1) items))) whole
-read_more items i item values values' valid valid' cell whole lt is gives e_values e_valid has = record {
+pub read_more : {X : Type 0} (f : Data → Option (Option X)) (under_null : X) (items : List Value) (i : ℕ) (item : Value) (stored stored' : List X) (marks marks' : List Bool) (cell : Option X) (whole : Option (List (Option X)))
+    → i < length items → item ≡ get_or items i item → f (view item) ≡ Some cell
+    → stored' ≡ stored ++ unwrap_or cell under_null ∷ [] → marks' ≡ marks ++ is_some cell ∷ []
+    → HasRead under_null stored marks (all_in f (items_view (drop i items))) whole
+    → HasRead under_null stored' marks' (all_in f (items_view (drop (i + 1) items))) whole
+read_more {X} f under_null items i item stored stored' marks marks' cell whole lt is gives e_stored e_marks has = record {
   cells = has.cells ++ cell ∷ [];
   are = record {
-    values_of = e_values ∙ ap (λ (vs : List ℤ). vs ++ unwrap_or cell (pos 0) ∷ []) has.are.values_of ∙ sym (map-append (λ (x : Option ℤ). unwrap_or x (pos 0)) has.cells (cell ∷ []));
-    valid_of = e_valid ∙ ap (λ (bs : List Bool). bs ++ is_some cell ∷ []) has.are.valid_of ∙ sym (map-append (λ (x : Option ℤ). is_some x) has.cells (cell ∷ []));
+    stored_of = e_stored ∙ ap (λ (vs : List X). vs ++ unwrap_or cell under_null ∷ []) has.are.stored_of ∙ sym (map-append (λ (x : Option X). unwrap_or x under_null) has.cells (cell ∷ []));
+    marks_of = e_marks ∙ ap (λ (bs : List Bool). bs ++ is_some cell ∷ []) has.are.marks_of ∙ sym (map-append (λ (x : Option X). is_some x) has.cells (cell ∷ []));
   };
-  front = all_step (i64_cell Nullable) items i item has.cells cell whole lt is gives has.front;
+  front = all_step f items i item has.cells cell whole lt is gives has.front;
 }
-
-pub stored-map-Some : (values : List ℤ) → stored_numbers (map Some values) ≡ values
-stored-map-Some [] = refl
-stored-map-Some (v ∷ vs) = ap (λ (ws : List ℤ). v ∷ ws) (stored-map-Some vs)

@@ -10,7 +10,8 @@ use Rattle.serde_json.specs.Read.{read}
 use Rattle.serde_json.specs.View.{members_of}
 use Rattle.std.specs.Prelude.{String}
 use Rattle.std.specs.declared.alloc.Global.{Global}
-use Rattle.rowrun.specs.Batch.{json_of, member_count}
+use Rattle.rowrun.specs.Batch.{json_of}
+use Rattle.rowrun.specs.Objects.{member_count}
 
 pub json_of_text : (bs : List ℕ) → IsUtf8 bs → json_of bs ≡ read bs
 unfolding json_of

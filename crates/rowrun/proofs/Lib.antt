@@ -1,10 +1,10 @@
 pub mod Answered
-pub mod Columns
 pub mod FaultNumbers
 pub mod Items
 pub mod JsonText
 pub mod Lifted
 pub mod Lines
-pub mod Marks
+pub mod Names
 pub mod OnLiterals
+pub mod Ranges
 pub mod SameElements

@@ -1,7 +1,9 @@
 pub mod Batch
 pub mod BatchView
+pub mod Columns
 pub mod Faults
 pub mod Functions
+pub mod Objects
 pub mod Reading
 pub mod Results
 pub mod Shows

@@ -1,6 +1,6 @@
 -- How a reader of the batch answers.
-use Rattle.std.specs.Prelude.{◌≡◌, ℤ, Bool, List, map, Option, Some, None, is_some, Result, Ok, Err}
-use Rattle.rowrun.specs.Batch.{stored_numbers}
+use Rattle.std.specs.Prelude.{◌≡◌, Bool, List, map, Option, Some, None, is_some, Result, Ok, Err}
+use Rattle.rowrun.specs.Columns.{stored_values}
 use Rattle.rowrun.specs.declared.tree.Stop.{Stop}
 use Rattle.rowrun.specs.declared.tree.Stop.TheVariants.{Memory, NoBatch}
 use Rattle.colbase.specs.declared.fault.Fault.{Fault}
@@ -16,10 +16,10 @@ abbrev pub Gives : {X Y : Type 0} → (X → Y) → Result X Stop → Option Y �
 Gives view (Ok x) read = read ≡ Some (view x)
 Gives view (Err e) read = Stops e read
 
--- the numbers that are stored for the cells, and which of them are not null
-pub record AreOf (cells : List (Option ℤ)) (values : List ℤ) (valid : List Bool) : Type 0 where
-  pub values_of : values ≡ stored_numbers cells
-  pub valid_of : valid ≡ map is_some cells
+-- what is stored for the cells, and which of them are not null
+pub record AreOf {X : Type 0} (under_null : X) (cells : List (Option X)) (stored : List X) (marks : List Bool) : Type 0 where
+  pub stored_of : stored ≡ stored_values under_null cells
+  pub marks_of : marks ≡ map is_some cells
 
 -- why a column could not be built
 abbrev pub stop_of : Fault → Stop

@@ -1,8 +1,9 @@
 // A batch from the bytes that state it.
 ghost use Rattle.std.specs.Prelude.{◌≡◌, IfOk, IsErrOf, IsSome, Some, None};
 ghost use Rattle.serde_json.specs.View.{view, items_view};
-ghost use Rattle.rowrun.specs.Batch.{call_in, columns_in, batch_in, json_of, batch_of};
+ghost use Rattle.rowrun.specs.Batch.{call_in, batch_in, json_of, batch_of};
 ghost use Rattle.rowrun.specs.BatchView.{batch_view};
+ghost use Rattle.rowrun.specs.Columns.{columns_in};
 ghost use Rattle.rowrun.specs.Reading.{Gives};
 
 use crate::batch::{Batch, Call};

@@ -2,6 +2,7 @@
 ghost use Rattle.std.specs.Prelude.{◌<◌, ◌≡◌, length, IfOk};
 
 mod called;
+mod columns;
 
 use super::*;
 use std::alloc::{AllocError, Global};
@@ -223,15 +224,6 @@ fn other_columns_are_not_built(rt: HostRuntime) -> Result<(), Fail> {
         ("\"layout\":\"primitive\",\"type\":\"i64\"", 8),
         ("\"layout\":\"primitive\",\"values\":[1]", 8),
         ("\"type\":\"i64\",\"values\":[1]", 8),
-        (
-            "\"layout\":\"primitive\",\"type\":\"i64?\",\"values\":[1],\"valid\":[true]",
-            8,
-        ),
-        (
-            "\"layout\":\"primitive\",\"type\":\"i32\",\"values\":[1]",
-            8,
-        ),
-        ("\"layout\":\"bool\",\"type\":\"bool\",\"values\":[true]", 8),
         (
             "\"layout\":\"constant\",\"type\":\"i64\",\"value\":1,\"len\":1",
             8,

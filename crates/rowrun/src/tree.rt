@@ -2,7 +2,8 @@
 ghost use Rattle.std.specs.Prelude.{◌≡◌, option_map, IfOk, IsErrOf, Some, None};
 ghost use Rattle.serde_json.specs.View.{view, items_view};
 ghost use Rattle.rowrun.specs.declared.tree.Stop.TheVariants.{Memory};
-ghost use Rattle.rowrun.specs.Batch.{has_keys, text_in, array_in, number_in, json_of};
+ghost use Rattle.rowrun.specs.Batch.{json_of};
+ghost use Rattle.rowrun.specs.Objects.{has_keys, text_in, array_in, number_in};
 ghost use Rattle.rowrun.specs.Reading.{stop_of};
 
 use colbase::Fault;
@@ -70,7 +71,7 @@ pub(crate) fn json_in(alloc: Global, bytes: &[u8]) -> Result<Value, JsonStop>
 }
 
 /// Whether the value is an object with so many keys.
-#[tactic(auto, unfolding(crate::specs::Batch::has_keys))]
+#[tactic(auto, unfolding(crate::specs::Objects::has_keys))]
 pub(crate) fn has_keys(value: &Value, count: usize) -> bool
     ensures { result ≡ has_keys count (view value.now) }
 {
@@ -80,21 +81,21 @@ pub(crate) fn has_keys(value: &Value, count: usize) -> bool
     }
 }
 
-#[tactic(auto, unfolding(crate::specs::Batch::text_in))]
+#[tactic(auto, unfolding(crate::specs::Objects::text_in))]
 pub(crate) fn text_in<'v>(value: &'v Value, key: &str) -> Option<&'v str>
     ensures { option_map (λ s. s.now) result ≡ text_in key.now (view value.now) }
 {
     value.get(key)?.as_str()
 }
 
-#[tactic(auto, unfolding(crate::specs::Batch::array_in))]
+#[tactic(auto, unfolding(crate::specs::Objects::array_in))]
 pub(crate) fn array_in<'v>(value: &'v Value, key: &str) -> Option<&'v Vec<Value>>
     ensures { option_map (λ v. items_view v.now.items) result ≡ array_in key.now (view value.now) }
 {
     value.get(key)?.as_array()
 }
 
-#[tactic(auto, unfolding(crate::specs::Batch::number_in))]
+#[tactic(auto, unfolding(crate::specs::Objects::number_in))]
 pub(crate) fn number_in(value: &Value, key: &str) -> Option<u64>
     ensures { result ≡ number_in key.now (view value.now) }
 {

@@ -1,15 +1,16 @@
 // The definitions of texts and batches, computed on worked values.
-ghost use Rattle.std.specs.Prelude.{◌≡◌, [], ◌∷◌, Some, None, pos, negsuc, true, false, codes};
+ghost use Rattle.std.specs.Prelude.{◌≡◌, [], ◌∷◌, Some, None, option_and_then, pos, negsuc, true, false, codes};
 ghost use Rattle.colbase.specs.Cell.{truth, bytes, list_of, number};
 ghost use Rattle.colbase.specs.LogicalType.{null, bool, primitive, utf8, binary, list, fixed_size_list, extension};
 ghost use Rattle.colbase.specs.declared.dtype.PType.TheVariants.{I8, I16, I32, I64, U8, U16, U32, U64};
 ghost use Rattle.colbase.specs.declared.dtype.Nullability.TheVariants.{Nullable, NonNullable};
 ghost use Rattle.colbase.specs.declared.dtype.TimeUnit.TheVariants.{Nanoseconds, Microseconds, Milliseconds, Seconds, Days};
 ghost use Rattle.colbase.specs.declared.validity.Validity.TheVariants as validity;
-ghost use Rattle.colbase.specs.declared.values.PrimitiveValues.TheVariants.{I64 as Numbers};
-ghost use Rattle.colbase.specs.Arrays.{primitive as array};
+ghost use Rattle.colbase.specs.declared.values.PrimitiveValues.TheVariants.{I8 as Bytes, I64 as Numbers, U64 as Naturals};
+ghost use Rattle.colbase.specs.Arrays.{primitive as array, bool as truths};
 ghost use Rattle.rowrun.specs.declared.batch.Call.TheVariants.{WrappingAdd};
 ghost use Rattle.rowrun.specs.Batch.{json_of, batch_of};
+ghost use Rattle.rowrun.specs.Columns.{column_in};
 ghost use Rattle.rowrun.specs.Text.{type_text, cell_text, text};
 
 #[tactic(auto, unfolding(crate::proofs::OnLiterals::texts_on_literals))]
@@ -72,10 +73,44 @@ fn bytes_state_the_worked_batches()
     ensures no_json { json_of (codes "{\"call\":\"wrapping_add\",\"options\":{},\"ro") ≡ None }
 {}
 
+#[tactic(auto, unfolding(crate::proofs::OnLiterals::batches_on_literals))]
+fn objects_state_the_worked_numbers()
+    ensures within { option_and_then column_in (json_of (codes "{\"layout\":\"primitive\",\"type\":\"i8\",\"values\":[-128,127]}"))
+        ≡ Some (array (Bytes (negsuc 127 ∷ pos 127 ∷ [])) validity.NonNullable) }
+    ensures above { option_and_then column_in (json_of (codes "{\"layout\":\"primitive\",\"type\":\"i8\",\"values\":[128]}")) ≡ None }
+    ensures below { option_and_then column_in (json_of (codes "{\"layout\":\"primitive\",\"type\":\"i8\",\"values\":[-129]}")) ≡ None }
+    ensures greatest { option_and_then column_in (json_of (codes "{\"layout\":\"primitive\",\"type\":\"u64\",\"values\":[18446744073709551615]}"))
+        ≡ Some (array (Naturals (18446744073709551615 ∷ [])) validity.NonNullable) }
+    ensures negative { option_and_then column_in (json_of (codes "{\"layout\":\"primitive\",\"type\":\"u64\",\"values\":[-1]}")) ≡ None }
+{}
+
+#[tactic(auto, unfolding(crate::proofs::OnLiterals::batches_on_literals))]
+fn objects_state_the_worked_validities()
+    ensures none { option_and_then column_in (json_of (codes "{\"layout\":\"primitive\",\"type\":\"i8?\",\"values\":[5,6],\"valid\":\"none\"}"))
+        ≡ Some (array (Bytes (pos 5 ∷ pos 6 ∷ [])) validity.AllInvalid) }
+    ensures marks { option_and_then column_in (json_of (codes "{\"layout\":\"primitive\",\"type\":\"i8?\",\"values\":[5,6],\"valid\":[true,true]}"))
+        ≡ Some (array (Bytes (pos 5 ∷ pos 6 ∷ [])) (validity.Array (true ∷ true ∷ []))) }
+    ensures beside_null { option_and_then column_in (json_of (codes "{\"layout\":\"primitive\",\"type\":\"i8?\",\"values\":[5,null],\"valid\":[true,false]}")) ≡ None }
+    ensures required { option_and_then column_in (json_of (codes "{\"layout\":\"primitive\",\"type\":\"i8\",\"values\":[5],\"valid\":[true]}")) ≡ None }
+    ensures shorter { option_and_then column_in (json_of (codes "{\"layout\":\"primitive\",\"type\":\"i8?\",\"values\":[5,6],\"valid\":[true]}")) ≡ None }
+{}
+
+#[tactic(auto, unfolding(crate::proofs::OnLiterals::batches_on_literals))]
+fn objects_state_the_worked_truth_values()
+    ensures null { option_and_then column_in (json_of (codes "{\"layout\":\"bool\",\"type\":\"bool?\",\"values\":[true,null]}"))
+        ≡ Some (truths (true ∷ false ∷ []) (validity.Array (true ∷ false ∷ []))) }
+    ensures no_null { option_and_then column_in (json_of (codes "{\"layout\":\"bool\",\"type\":\"bool?\",\"values\":[true]}"))
+        ≡ Some (truths (true ∷ []) validity.AllValid) }
+    ensures required { option_and_then column_in (json_of (codes "{\"layout\":\"bool\",\"type\":\"bool\",\"values\":[null]}")) ≡ None }
+{}
+
 #[test]
 fn definitions_give_the_worked_values() {
     types_have_their_texts();
     cells_have_their_texts();
     columns_have_their_texts();
     bytes_state_the_worked_batches();
+    objects_state_the_worked_numbers();
+    objects_state_the_worked_validities();
+    objects_state_the_worked_truth_values();
 }

@@ -1,6 +1,6 @@
 use Rattle.std.proofs.Common.{◌≡◌, drop}
 use Rattle.serde_json.specs.View.{items_view}
-use Rattle.rowrun.specs.Batch.{columns_in}
+use Rattle.rowrun.specs.Columns.{columns_in}
 use Rattle.rowrun.proofs.Items.{with_front}
 use Rattle.rowrun.proofs.input.columns_in.Given as goal
 

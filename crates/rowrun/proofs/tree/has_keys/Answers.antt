@@ -1,7 +1,7 @@
 use Rattle.std.proofs.Common.{◌≡◌, sym, ap, nat_eq, ◌∙◌, ℕ, map}
 use Rattle.std.proofs.lemmas.List.{length-map}
 use Rattle.serde_json.specs.View.{view, members_view}
-use Rattle.rowrun.specs.Batch.{has_keys, member_count, counted}
+use Rattle.rowrun.specs.Objects.{has_keys, member_count, counted}
 use Rattle.rowrun.proofs.JsonText.{member_count-members_of}
 use Rattle.rowrun.proofs.tree.has_keys.Goals as goal
 

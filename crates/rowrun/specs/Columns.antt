@@ -1,0 +1,161 @@
+-- The columns that JSON values state.
+use Rattle.std.specs.Prelude.{ℕ, ℤ, pos, Bool, false, ◌+◌, ◌-◌, ◌==◌, if◌then◌else◌, List, map, length, slice_index, take, Option, Some, None, option_map, is_some, unwrap_or, codes}
+use Rattle.std.specs.List.{list_all}
+use Rattle.std.specs.Str.{bytes_eq}
+use Rattle.serde_json.specs.Data.{Data, Items}
+use Rattle.serde_json.specs.Find.{get, as_null, as_bool, as_number, as_i64, as_u64, as_str, as_array}
+use Rattle.colbase.specs.Arrays.{Array, primitive, bool}
+use Rattle.colbase.specs.Faults.{length_check}
+use Rattle.colbase.specs.Fits.{in_range}
+use Rattle.colbase.specs.declared.fault.LayoutFault.{LayoutFault}
+use Rattle.colbase.specs.declared.validity.Validity.{Validity}
+use Rattle.colbase.specs.declared.validity.Validity.TheVariants as validity
+use Rattle.colbase.specs.declared.values.PrimitiveValues.TheVariants as values
+use Rattle.colbase.specs.declared.dtype.PType.{PType}
+use Rattle.colbase.specs.declared.dtype.PType.TheVariants.{I8, I16, I32, I64, U8, U16, U32, U64}
+use Rattle.colbase.specs.declared.dtype.Nullability.{Nullability}
+use Rattle.colbase.specs.declared.dtype.Nullability.TheVariants.{Nullable, NonNullable}
+use Rattle.rowrun.specs.Objects.{◌>>=◌, has_keys, text_in, array_in, all_in}
+
+-- ---- types
+
+-- whether `?` stands at the end of a type's name
+abbrev pub ends_in_mark : List ℕ → Bool
+ends_in_mark name = slice_index name (length name - 1) == 63
+
+-- a type's name before that mark
+unfoldable pub plain_name : List ℕ → List ℕ
+plain_name name = if ends_in_mark name then take (length name - 1) name else name
+
+unfoldable pub name_nullability : List ℕ → Nullability
+name_nullability name = if ends_in_mark name then Nullable else NonNullable
+
+unfoldable pub integer_named : List ℕ → Option PType
+integer_named name =
+    if bytes_eq name (codes "i8") then Some I8 else if bytes_eq name (codes "i16") then Some I16
+    else if bytes_eq name (codes "i32") then Some I32 else if bytes_eq name (codes "i64") then Some I64
+    else if bytes_eq name (codes "u8") then Some U8 else if bytes_eq name (codes "u16") then Some U16
+    else if bytes_eq name (codes "u32") then Some U32 else if bytes_eq name (codes "u64") then Some U64 else None
+
+unfoldable pub integer_type : List ℕ → Option (PType × Nullability)
+integer_type name = option_map (λ p. (p, name_nullability name)) (integer_named (plain_name name))
+
+unfoldable pub bool_type : List ℕ → Option Nullability
+bool_type name = if bytes_eq (plain_name name) (codes "bool") then Some (name_nullability name) else None
+
+-- ---- validity
+
+abbrev pub is_text : List ℕ → Option (List ℕ) → Bool
+is_text word None = false
+is_text word (Some text) = bytes_eq text word
+
+-- the validity that `valid` states: the word "none", or an array of truth values
+unfoldable pub stated_validity : Data → Option Validity
+stated_validity d =
+    if is_text (codes "none") (as_str d) then Some validity.AllInvalid
+    else option_map validity.Array (as_array d >>= all_in as_bool)
+
+-- `valid` may stand only where the type is nullable
+abbrev pub optional_validity : Nullability → Option Data → Option (Option Validity)
+optional_validity n None = Some None
+optional_validity NonNullable (Some d) = None
+optional_validity Nullable (Some d) = option_map Some (stated_validity d)
+
+-- the validity by the key `valid`, where the object has the key
+unfoldable pub valid_in : Nullability → Data → Option (Option Validity)
+valid_in n d = optional_validity n (get (codes "valid") d)
+
+-- an object with this number of keys besides `valid`
+abbrev pub has_keys_and_valid : Option Validity → ℕ → Data → Bool
+has_keys_and_valid None n d = has_keys n d
+has_keys_and_valid (Some v) n d = has_keys (n + 1) d
+
+-- ---- values
+
+-- the column, unless the layout's check fails: a validity array has as many truth values as there are rows
+abbrev pub unless_fault : Option LayoutFault → Array → Option Array
+unless_fault None a = Some a
+unless_fault (Some f) a = None
+
+abbrev pub laid_out : {X : Type 0} → (List X → Validity → Array) → List X → Validity → Option Array
+laid_out layout xs v = unless_fault (length_check v (length xs)) (layout xs v)
+
+-- values none of which is null
+abbrev pub required_array : {X : Type 0} → (Data → Option X) → (List X → Validity → Array) → Validity → Items → Option Array
+required_array value layout v items = all_in value items >>= (λ xs. laid_out layout xs v)
+
+abbrev pub value_or_null : {X : Type 0} → (Data → Option X) → Data → Option (Option X)
+value_or_null value d = if is_some (as_null d) then Some None else option_map Some (value d)
+
+-- what is stored for the values, with this under a null
+abbrev pub stored_values : {X : Type 0} → X → List (Option X) → List X
+stored_values under_null cells = map (λ cell. unwrap_or cell under_null) cells
+
+-- the validity of a nullable column with these marks
+abbrev pub marked : List Bool → Validity
+marked marks = if list_all (λ m. m) marks then validity.AllValid else validity.Array marks
+
+-- values some of which may be null
+abbrev pub optional_array : {X : Type 0} → (Data → Option X) → X → (List X → Validity → Array) → Items → Option Array
+optional_array value under_null layout items =
+    all_in (value_or_null value) items >>= (λ cells. laid_out layout (stored_values under_null cells) (marked (map is_some cells)))
+
+-- a value may be null only where the type is nullable and `valid` isn't given
+abbrev pub array_of : {X : Type 0} → (Data → Option X) → X → (List X → Validity → Array) → Nullability → Option Validity → Items → Option Array
+array_of value under_null layout n (Some v) items = required_array value layout v items
+array_of value under_null layout NonNullable None items = required_array value layout validity.NonNullable items
+array_of value under_null layout Nullable None items = optional_array value under_null layout items
+
+-- ---- layouts
+
+abbrev pub signed_within : PType → ℤ → Option ℤ
+signed_within p z = if in_range p z then Some z else None
+
+abbrev pub unsigned_within : PType → ℕ → Option ℕ
+unsigned_within p n = if in_range p (pos n) then Some n else None
+
+-- a whole number of this signed type
+unfoldable pub signed_value : PType → Data → Option ℤ
+signed_value p d = as_number d >>= as_i64 >>= signed_within p
+
+-- a whole number of this unsigned type
+unfoldable pub unsigned_value : PType → Data → Option ℕ
+unsigned_value p d = as_number d >>= as_u64 >>= unsigned_within p
+
+abbrev pub integer_array : PType → Nullability → Option Validity → Items → Option Array
+integer_array I8 n v items = array_of (signed_value I8) (pos 0) (λ xs. primitive (values.I8 xs)) n v items
+integer_array I16 n v items = array_of (signed_value I16) (pos 0) (λ xs. primitive (values.I16 xs)) n v items
+integer_array I32 n v items = array_of (signed_value I32) (pos 0) (λ xs. primitive (values.I32 xs)) n v items
+integer_array I64 n v items = array_of (signed_value I64) (pos 0) (λ xs. primitive (values.I64 xs)) n v items
+integer_array U8 n v items = array_of (unsigned_value U8) 0 (λ xs. primitive (values.U8 xs)) n v items
+integer_array U16 n v items = array_of (unsigned_value U16) 0 (λ xs. primitive (values.U16 xs)) n v items
+integer_array U32 n v items = array_of (unsigned_value U32) 0 (λ xs. primitive (values.U32 xs)) n v items
+integer_array U64 n v items = array_of (unsigned_value U64) 0 (λ xs. primitive (values.U64 xs)) n v items
+
+unfoldable pub primitive_in : Data → Option Array
+primitive_in d = do
+  name ← text_in (codes "type") d
+  type ← integer_type name
+  items ← array_in (codes "values") d
+  valid ← valid_in type.1 d
+  if has_keys_and_valid valid 3 d then integer_array type.0 type.1 valid items else None
+
+unfoldable pub bool_in : Data → Option Array
+bool_in d = do
+  name ← text_in (codes "type") d
+  nullability ← bool_type name
+  items ← array_in (codes "values") d
+  valid ← valid_in nullability d
+  if has_keys_and_valid valid 3 d then array_of as_bool false bool nullability valid items else None
+
+-- a column of the layout of this name
+abbrev pub column_of : List ℕ → Data → Option Array
+column_of layout d =
+    if bytes_eq layout (codes "primitive") then primitive_in d
+    else if bytes_eq layout (codes "bool") then bool_in d else None
+
+unfoldable pub column_in : Data → Option Array
+column_in d = text_in (codes "layout") d >>= (λ layout. column_of layout d)
+
+abbrev pub columns_in : Items → Option (List Array)
+columns_in items = all_in column_in items

@@ -1,0 +1,34 @@
+-- The members of a JSON object, and the items of a JSON array.
+use Rattle.std.specs.Prelude.{ℕ, Bool, false, ◌+◌, ◌==◌, List, [], ◌∷◌, Option, Some, None, option_map, option_and_then}
+use Rattle.serde_json.specs.Data.{Data, Items, no_items, item, Members, no_members, member}
+use Rattle.serde_json.specs.Find.{get, as_number, as_u64, as_str, as_array, as_object}
+
+infixl 10 ◌>>=◌
+abbrev pub ◌>>=◌ : {A B : Type 0} → Option A → (A → Option B) → Option B
+o >>= f = option_and_then f o
+
+abbrev pub member_count : Members → ℕ
+member_count no_members = 0
+member_count (member k d ms) = member_count ms + 1
+
+abbrev pub counted : ℕ → Option Members → Bool
+counted n None = false
+counted n (Some ms) = member_count ms == n
+
+-- an object with this number of keys
+unfoldable pub has_keys : ℕ → Data → Bool
+has_keys n d = counted n (as_object d)
+
+unfoldable pub text_in : List ℕ → Data → Option (List ℕ)
+text_in key d = get key d >>= as_str
+
+unfoldable pub array_in : List ℕ → Data → Option Items
+array_in key d = get key d >>= as_array
+
+unfoldable pub number_in : List ℕ → Data → Option ℕ
+number_in key d = get key d >>= as_number >>= as_u64
+
+-- what the items state, where each of them states something
+abbrev pub all_in : {X : Type 0} → (Data → Option X) → Items → Option (List X)
+all_in f no_items = Some []
+all_in f (item d ds) = option_and_then (λ x. option_map (λ xs. x ∷ xs) (all_in f ds)) (f d)
