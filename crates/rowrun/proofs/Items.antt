@@ -5,7 +5,6 @@ use Rattle.serde_json.specs.Data.{Data}
 use Rattle.serde_json.specs.View.{items_view, view}
 use Rattle.serde_json.specs.declared.value.Value.{Value}
 use Rattle.std.specs.Prelude.{unwrap_or, is_some}
-use Rattle.rowrun.specs.Columns.{stored_values}
 use Rattle.rowrun.specs.Objects.{all_in}
 use Rattle.rowrun.specs.Reading.{AreOf}
 

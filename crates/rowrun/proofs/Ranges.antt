@@ -1,5 +1,5 @@
 -- A number that fits an integer type is in its range.
-use Rattle.std.proofs.Common.{◌≡◌, ℕ, ℤ, pos, negsuc, ◌<◌, ◌^◌, Bool, true, false, Option, Some, None, Result, Ok, Err, ap, sym, refl, ◌∙◌, SFits, Fits, w64, ltb-true, lt-ltb}
+use Rattle.std.proofs.Common.{◌≡◌, ℕ, ℤ, pos, negsuc, ◌^◌, Bool, true, false, Option, Some, None, Result, Ok, Err, ap, sym, refl, ◌∙◌, SFits, Fits, w64, ltb-true, lt-ltb}
 use Rattle.std.specs.Int.{Width, FitsUnsignedBits}
 use mir.Val.{hbits}
 use Rattle.std.specs.Prelude.{MatchOption, OkIff, if◌then◌else◌}

@@ -1,5 +1,4 @@
 // A column from its JSON value.
-ghost use Rattle.std.specs.Prelude.{◌≡◌};
 ghost use Rattle.serde_json.specs.View.{view};
 ghost use Rattle.rowrun.specs.Columns.{column_in};
 ghost use Rattle.rowrun.specs.Reading.{Gives};

@@ -1,5 +1,4 @@
 // Columns of truth values.
-ghost use Rattle.std.specs.Prelude.{◌≡◌};
 ghost use Rattle.serde_json.specs.View.{view};
 ghost use Rattle.rowrun.specs.Columns.{laid_out, bool_in};
 ghost use Rattle.rowrun.specs.Reading.{Gives};

@@ -1,5 +1,4 @@
 // Columns of whole numbers.
-ghost use Rattle.std.specs.Prelude.{◌≡◌, pos};
 ghost use Rattle.serde_json.specs.View.{view, items_view};
 ghost use Rattle.colbase.specs.Arrays.{primitive};
 ghost use Rattle.rowrun.specs.Columns.{laid_out, integer_array, primitive_in};
@@ -180,7 +179,6 @@ impl ColumnValue for i64 {
 }
 
 impl ColumnValue for u8 {
-    ghost use Rattle.std.specs.Prelude.{pos};
     ghost use Rattle.colbase.specs.Arrays.{primitive};
     ghost use Rattle.colbase.specs.declared.dtype.PType.TheVariants as ptype;
     ghost use Rattle.colbase.specs.declared.values.PrimitiveValues.TheVariants.{U8};
@@ -209,7 +207,6 @@ impl ColumnValue for u8 {
 }
 
 impl ColumnValue for u16 {
-    ghost use Rattle.std.specs.Prelude.{pos};
     ghost use Rattle.colbase.specs.Arrays.{primitive};
     ghost use Rattle.colbase.specs.declared.dtype.PType.TheVariants as ptype;
     ghost use Rattle.colbase.specs.declared.values.PrimitiveValues.TheVariants.{U16};
@@ -238,7 +235,6 @@ impl ColumnValue for u16 {
 }
 
 impl ColumnValue for u32 {
-    ghost use Rattle.std.specs.Prelude.{pos};
     ghost use Rattle.colbase.specs.Arrays.{primitive};
     ghost use Rattle.colbase.specs.declared.dtype.PType.TheVariants as ptype;
     ghost use Rattle.colbase.specs.declared.values.PrimitiveValues.TheVariants.{U32};
@@ -267,7 +263,6 @@ impl ColumnValue for u32 {
 }
 
 impl ColumnValue for u64 {
-    ghost use Rattle.std.specs.Prelude.{pos};
     ghost use Rattle.colbase.specs.Arrays.{primitive};
     ghost use Rattle.colbase.specs.declared.dtype.PType.TheVariants as ptype;
     ghost use Rattle.colbase.specs.declared.values.PrimitiveValues.TheVariants.{U64};
