@@ -21,7 +21,8 @@ use Rattle.colbase.specs.Faults.{length_check, Builds}
 use Rattle.colbase.specs.Parts.{own_validity}
 use Rattle.colbase.specs.Arrays.{Array, primitive, dtype, row, rows, column, len, Sound}
 use Rattle.rowexec.specs.Strict.{full_row, strict, stated_type}
-use Rattle.rowexec.specs.WrappingAdd.{wrapping_sum, wrapping_sums, AreAddends, IsI64Array}
+use Rattle.rowexec.specs.Samples.{wrapping_sum}
+use Rattle.rowexec.specs.WrappingAdd.{wrapping_sums, AreAddends, IsI64Array}
 
 -- the sums of the stored pairs
 abbrev pub pair_sums : List ℤ → List ℤ → List ℤ

@@ -2,6 +2,7 @@ pub mod Batch
 pub mod Calls
 pub mod Masks
 pub mod Rows
+pub mod Samples
 pub mod Strict
 pub mod Visits
 pub mod WrappingAdd

@@ -1,19 +1,13 @@
--- `wrapping_add`: the meaning of a row, the column that it gives, and the columns that it takes.
-use Rattle.std.specs.Prelude.{◌≡◌, ℕ, pos, List, [], ◌∷◌}
-use Rattle.std.specs.Int.{w64, int_wrapping_add}
+-- `wrapping_add`: the column that it gives, and the columns that it takes.
+use Rattle.std.specs.Prelude.{◌≡◌, ℕ, List, [], ◌∷◌}
 use Rattle.colbase.specs.declared.dtype.PType.TheVariants.{I64}
 use Rattle.colbase.specs.declared.dtype.Nullability.TheVariants.{NonNullable}
 use Rattle.colbase.specs.declared.values.PrimitiveValues.TheVariants as values
-use Rattle.colbase.specs.Cell.{Cell, number}
 use Rattle.colbase.specs.Column.{Column}
 use Rattle.colbase.specs.LogicalType as type
 use Rattle.colbase.specs.Arrays.{Array, primitive, len}
+use Rattle.rowexec.specs.Samples.{wrapping_sum}
 use Rattle.rowexec.specs.Strict.{strict, stated_type}
-
--- the sum of two i64 modulo 2^64, as an i64; no other cells are read
-abbrev pub wrapping_sum : List Cell → Cell
-wrapping_sum (number x ∷ number y ∷ []) = number (int_wrapping_add w64 x y)
-wrapping_sum _ = number (pos 0)
 
 -- the column of the sums of n rows
 abbrev pub wrapping_sums : List Column → ℕ → Column

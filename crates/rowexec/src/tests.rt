@@ -4,7 +4,11 @@ ghost use Rattle.colbase.specs.Arrays.{len};
 ghost use Rattle.rowexec.specs.WrappingAdd.{IsI64Array};
 
 mod batches;
+mod columns;
 mod functions;
+mod labels;
+mod refusals;
+mod vtable;
 
 use crate::execute_wrapping_add;
 use bitlane::BitBuffer;
