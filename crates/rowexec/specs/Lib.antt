@@ -3,6 +3,4 @@ pub mod Calls
 pub mod Masks
 pub mod Rows
 pub mod Samples
-pub mod Strict
 pub mod Visits
-pub mod WrappingAdd
