@@ -1,5 +1,6 @@
 //! Times the proved loops of `crates/rowbench` beside the same loops in plain Rust, in one run, and prints their ratios.
 //! `bench/loops.sh` builds and runs it.
+use std::borrow::Cow;
 use std::hint::black_box;
 use std::time::Instant;
 
@@ -9,6 +10,7 @@ unsafe extern "C" {
     );
     fn rowbench_and(rows: usize, rounds: usize) -> usize;
     fn rowbench_map_rows(rows: usize, rounds: usize, constant: bool) -> i64;
+    fn rowbench_execute_rows(rows: usize, rounds: usize, both: bool) -> i64;
 }
 
 fn proved_map_into(xs: &[i64], ys: &[i64], out: &mut [i64]) {
@@ -57,6 +59,55 @@ fn plain_map_rows(rows: usize, rounds: usize, constant: bool) -> i64 {
     places.last().copied().unwrap_or(0)
 }
 
+/// Two columns of numbers, of which the first or both are null at every tenth row.
+struct Batch {
+    first: Vec<i64>,
+    first_valid: Vec<bool>,
+    second: Vec<i64>,
+    second_valid: Option<Vec<bool>>,
+}
+
+impl Batch {
+    fn new(rows: usize, both: bool) -> Batch {
+        let tenths = |first: usize| (0..rows).map(|i| i % 10 != first).collect();
+        Batch {
+            first: (0..rows as i64).collect(),
+            first_valid: tenths(3),
+            second: (0..rows as i64).collect(),
+            second_valid: both.then(|| tenths(7)),
+        }
+    }
+}
+
+/// The sums in a new list, and where both columns hold nulls the joined marks of the valid rows in another. One column's
+/// marks are lent as they are.
+#[inline(never)]
+fn plain_sums(batch: &Batch) -> (Vec<i64>, Cow<'_, [bool]>) {
+    let sums = batch.first.iter().zip(&batch.second).map(|(x, y)| x.wrapping_add(*y)).collect();
+    let valid = match &batch.second_valid {
+        None => Cow::Borrowed(&batch.first_valid[..]),
+        Some(second) => {
+            Cow::Owned(batch.first_valid.iter().zip(second).map(|(x, y)| x & y).collect())
+        }
+    };
+    (sums, valid)
+}
+
+/// The total over the rounds of the number in the row of that round, whose sums are made anew in each round.
+#[inline(never)]
+fn plain_execute_rows(rows: usize, rounds: usize, both: bool) -> i64 {
+    let batch = Batch::new(rows, both);
+    let mut total = 0i64;
+    for round in 0..rounds {
+        let answer = plain_sums(black_box(&batch));
+        let (sums, valid) = black_box(&answer);
+        if round < rows && valid[round] {
+            total = total.wrapping_add(sums[round]);
+        }
+    }
+    total
+}
+
 /// The least times of two works over several trials, which take turns, in nanoseconds a row.
 fn least<P: FnMut(), R: FnMut()>(rows: usize, rounds: usize, mut proved: P, mut plain: R) -> (f64, f64) {
     let (mut first, mut second) = (f64::MAX, f64::MAX);
@@ -70,6 +121,15 @@ fn least<P: FnMut(), R: FnMut()>(rows: usize, rounds: usize, mut proved: P, mut 
     }
     let scale = 1e9 / (rows * rounds) as f64;
     (first * scale, second * scale)
+}
+
+/// The least times of two works in nanoseconds a row, without what each takes for no round.
+fn least_of_rounds<P: FnMut(usize), R: FnMut(usize)>(
+    rows: usize, rounds: usize, mut proved: P, mut plain: R,
+) -> (f64, f64) {
+    let whole = least(rows, rounds, || proved(rounds), || plain(rounds));
+    let start = least(rows, rounds, || proved(0), || plain(0));
+    (whole.0 - start.0, whole.1 - start.1)
 }
 
 fn report(name: &str, rows: usize, (proved, plain): (f64, f64)) {
@@ -125,6 +185,21 @@ fn rows_of_tuples(rows: usize, rounds: usize, constant: bool) {
     report(name, rows, times);
 }
 
+fn executions(rows: usize, rounds: usize, both: bool) {
+    // SAFETY: the function asks nothing of its numbers.
+    let proved = |rounds| unsafe { rowbench_execute_rows(rows, rounds, both) };
+    let plain = |rounds| plain_execute_rows(rows, rounds, both);
+    assert_eq!(proved(16), plain(16));
+    let times = least_of_rounds(
+        rows,
+        rounds,
+        |rounds| _ = black_box(proved(rounds)),
+        |rounds| _ = black_box(plain(rounds)),
+    );
+    let name = if both { "execute_rows, nulls in both" } else { "execute_rows, nulls in one" };
+    report(name, rows, times);
+}
+
 fn main() {
     println!("{:<28}{:>10}{:>10}{:>10}{:>8}", "loop", "rows", "proved", "plain", "ratio");
     for rows in [1024, 65536, 1_000_000] {
@@ -133,5 +208,7 @@ fn main() {
         conjunctions(rows, rounds);
         rows_of_tuples(rows, rounds, false);
         rows_of_tuples(rows, rounds, true);
+        executions(rows, rounds, false);
+        executions(rows, rounds, true);
     }
 }

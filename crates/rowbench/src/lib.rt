@@ -4,8 +4,10 @@
 
 ghost use Rattle.std.specs.Prelude.{◌≡◌, length};
 
+mod batches;
 mod bits;
 mod pairs;
+mod sum;
 mod tuples;
 
 use bitlane::map_into;
@@ -41,6 +43,21 @@ pub extern "C" fn rowbench_map_rows(
 ) -> i64 {
     match tuples::added_in_rounds(alloc, rows, rounds, constant) {
         Ok(sum) => sum,
+        Err(_) => 0,
+    }
+}
+
+/// The total of one number of each answer of a row function that adds two columns of `rows` numbers, executed anew in each
+/// round. Every tenth row of the first column is null, or of both.
+#[unsafe(no_mangle)]
+pub extern "C" fn rowbench_execute_rows(
+    alloc: Global,
+    rows: usize,
+    rounds: usize,
+    both: bool,
+) -> i64 {
+    match batches::executed_in_rounds(alloc, rows, rounds, both) {
+        Ok(total) => total,
         Err(_) => 0,
     }
 }

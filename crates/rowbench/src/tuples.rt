@@ -31,7 +31,7 @@ fn nines(rows: usize, ctx: ExecutionCtx) -> Res<ArrayRef>
     ConstantArray::try_new(nine, rows, ctx)
 }
 
-fn two_columns(
+pub fn two_columns(
     first: ArrayRef,
     second: ArrayRef,
     alloc: Global,

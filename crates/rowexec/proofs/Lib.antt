@@ -1,4 +1,3 @@
-pub mod Addends
 pub mod AllNull
 pub mod Batches
 pub mod Casting

@@ -2,6 +2,5 @@ pub mod Batch
 pub mod Calls
 pub mod Masks
 pub mod Rows
-pub mod Strict
+pub mod Samples
 pub mod Visits
-pub mod WrappingAdd

@@ -1,50 +1,13 @@
 // Worked batches.
+use super::columns::{args_of, column, has_rows};
 use super::functions::{Seven, Sum};
 use crate::{CallEngine, RowEngine, RowFnVTable, execute_rows, row_fn_return_dtype};
 use bitlane::BitBuffer;
 use colbase::{
-    ArrayRef, Buffer, ConstantArray, DType, EmptyOptions, ExecutionArgs, ExecutionCtx, Fault,
-    Nullability, PType, PrimitiveArray, Scalar, ScalarValue, Validity,
+    ConstantArray, DType, EmptyOptions, ExecutionArgs, ExecutionCtx, Fault, Nullability, PType,
+    Scalar, Validity,
 };
-use std::alloc::Global;
 use std::test::Fail;
-
-fn column(alloc: Global, values: &[i64], validity: Validity) -> Result<ArrayRef, Fail> {
-    let ctx = ExecutionCtx::new(alloc);
-    let values = Buffer::from_vec(Vec::from_slice(alloc, values)?, ctx)?;
-    Ok(PrimitiveArray::try_new(values, validity, ctx)?)
-}
-
-fn args_of(
-    alloc: Global,
-    first: ArrayRef,
-    second: ArrayRef,
-    rows: usize,
-) -> Result<ExecutionArgs, Fail> {
-    let mut columns = Vec::new(alloc);
-    columns.push(first)?;
-    columns.push(second)?;
-    Ok(ExecutionArgs::new(columns, rows))
-}
-
-// Whether the column has these rows.
-fn has_rows(array: &ArrayRef, rows: &[Option<i64>], ctx: ExecutionCtx) -> Result<bool, Fail> {
-    if array.len() != rows.len() {
-        return Ok(false);
-    }
-    for i in 0..array.len() {
-        let scalar = array.scalar_at(i, ctx)?;
-        let same = match (scalar.value(), &rows[i]) {
-            (None, None) => true,
-            (Some(ScalarValue::Int(value)), Some(wanted)) => *value == *wanted as i128,
-            _ => false,
-        };
-        if !same {
-            return Ok(false);
-        }
-    }
-    Ok(true)
-}
 
 #[test]
 fn a_function_without_arguments(rt: HostRuntime) -> Result<(), Fail> {
@@ -97,29 +60,6 @@ fn a_column_of_nulls(rt: HostRuntime) -> Result<(), Fail> {
     assert!(rt; sums.as_constant().is_some());
     let mask = RowFnVTable(Sum).validity(&args, ctx)?;
     assert_eq!(rt; mask.true_count(), 0);
-    Ok(())
-}
-
-#[test]
-fn refused_columns(rt: HostRuntime) -> Result<(), Fail> {
-    let ctx = ExecutionCtx::new(rt.alloc());
-    let args = ExecutionArgs::new(Vec::new(rt.alloc()), 3);
-    let told = execute_rows(&Sum, &EmptyOptions, &args, ctx).err();
-    let wanted = Fault::Arity {
-        expected: 2,
-        actual: 0,
-    };
-    assert!(rt; told == Some(wanted));
-    let first = column(rt.alloc(), &[1, 2], Validity::NonNullable)?;
-    let second = column(rt.alloc(), &[1], Validity::NonNullable)?;
-    let args = args_of(rt.alloc(), first, second, 2)?;
-    let told = execute_rows(&Sum, &EmptyOptions, &args, ctx).err();
-    let wanted = Fault::InputLength {
-        index: 1,
-        length: 1,
-        row_count: 2,
-    };
-    assert!(rt; told == Some(wanted));
     Ok(())
 }
 
