@@ -1,14 +1,11 @@
 // The text of a column.
-ghost use Rattle.std.specs.Prelude.{◌≡◌, ◌++◌, ◌<◌, ℕ, length, true, option_map, IfOk, OnOk};
+ghost use Rattle.std.specs.Prelude.{◌≡◌, ◌++◌, ◌<◌, length, true, option_map, IfOk, OnOk};
 ghost use Rattle.std.specs.List.{flat_map};
 ghost use Rattle.colbase.specs.declared.dtype.PType.TheVariants.{I64};
 ghost use Rattle.colbase.specs.declared.dtype.Nullability.TheVariants.{Nullable};
-ghost use Rattle.colbase.specs.declared.values.PrimitiveValues.TheVariants.{I64 as Numbers};
 ghost use Rattle.colbase.specs.Cell.{number};
 ghost use Rattle.colbase.specs.LogicalType.{primitive};
-ghost use Rattle.colbase.specs.Arrays.{column, dtype, row, rows, len};
-ghost use Rattle.colbase.specs.Values.{number_at};
-ghost use Rattle.rowtypes.specs.Elements.{shown_number};
+ghost use Rattle.colbase.specs.Arrays.{column, dtype, row, rows};
 ghost use Rattle.rowtypes.specs.Reading.{is_integer};
 ghost use Rattle.rowrun.specs.Text.{text, line, type_text, cell_text};
 ghost use Rattle.rowrun.specs.Shows.{Shows};
