@@ -37,6 +37,18 @@ fn another_length_is_refused(rt: HostRuntime) -> Result<(), Fail> {
 }
 
 #[test]
+fn a_column_of_another_type_is_refused(rt: HostRuntime) -> Result<(), Fail> {
+    let alloc = rt.alloc();
+    let truth = "{\"layout\":\"bool\",\"type\":\"bool\",\"values\":[true]}";
+    let first = format!(in alloc; "{truth},{ONE}")?;
+    assert!(rt; ends_with(alloc, &first, 3, "fault Dtype 0\n")?);
+    let narrow = "{\"layout\":\"primitive\",\"type\":\"i32?\",\"values\":[7]}";
+    let second = format!(in alloc; "{ONE},{narrow}")?;
+    assert!(rt; ends_with(alloc, &second, 3, "fault Dtype 1\n")?);
+    Ok(())
+}
+
+#[test]
 fn a_batch_is_one_call(rt: HostRuntime) -> Result<(), Fail> {
     let alloc = rt.alloc();
     let mut words = Vec::new(alloc);
