@@ -52,6 +52,6 @@ returns g c =
     ran ran_loop.result.0 n ran_loop.result.1 (g.F.RowSpec.meaning self.options.now types) g.F.Evidence.FailureEvidence.neutral (g.F.RowSpec.reads self.options.now types) shown (g.F.RowSpec.output self.options.now types).storage g.Out.OutputElement.element_type columns T.cells (T.shows decoded) g.Out.OutputElement.states
     c.requires.output.storage same
     (λ i h x y k p. c.requires.agrees known c.in-Ok-prepare.prepared _ x y c.known_values.ensures.read c.in-Ok-prepare.ensures refl
-      (subst (λ cells. ReadsFrom T.reads 0 cells) (sym k) (c.in-Ok.ensures.dense c.requires.dense_safe i (there i h)))
-      (agrees_at (T.known known) (T.known_of decoded) (T.cells x) (T.shows decoded i) c.known_values.ensures.known k (g.met.Args.ElementTuple.known_agrees decoded i)) p)
+    (subst (λ cells. ReadsFrom T.reads 0 cells) (sym k) (c.in-Ok.ensures.dense c.requires.dense_safe i (there i h)))
+    (agrees_at (T.known known) (T.known_of decoded) (T.cells x) (T.shows decoded i) c.known_values.ensures.known k (g.met.Args.ElementTuple.known_agrees decoded i)) p)
     full ran_loop.ensures.dtype ran_loop.ensures.len ran_loop.ensures.rows ran_loop.ensures.errors ran_loop.ensures.most ran_loop.ensures.least
