@@ -10,7 +10,7 @@ unsafe extern "C" {
     );
     fn rowbench_and(rows: usize, rounds: usize) -> usize;
     fn rowbench_map_rows(rows: usize, rounds: usize, constant: bool) -> i64;
-    fn rowbench_execute_rows(rows: usize, rounds: usize, both: bool) -> i64;
+    fn rowbench_execute_rows(rows: usize, rounds: usize, shape: u8) -> i64;
 }
 
 fn proved_map_into(xs: &[i64], ys: &[i64], out: &mut [i64]) {
@@ -108,6 +108,22 @@ fn plain_execute_rows(rows: usize, rounds: usize, both: bool) -> i64 {
     total
 }
 
+/// As [`plain_execute_rows`], for a column without nulls beside a constant that stands in a register.
+#[inline(never)]
+fn plain_beside_a_constant(rows: usize, rounds: usize) -> i64 {
+    let first: Vec<i64> = (0..rows as i64).collect();
+    let mut total = 0i64;
+    for round in 0..rounds {
+        let constant = black_box(9i64);
+        let sums: Vec<i64> = black_box(&first).iter().map(|x| x.wrapping_add(constant)).collect();
+        let sums = black_box(&sums);
+        if round < rows {
+            total = total.wrapping_add(sums[round]);
+        }
+    }
+    total
+}
+
 /// The least times of two works over several trials, which take turns, in nanoseconds a row.
 fn least<P: FnMut(), R: FnMut()>(rows: usize, rounds: usize, mut proved: P, mut plain: R) -> (f64, f64) {
     let (mut first, mut second) = (f64::MAX, f64::MAX);
@@ -187,7 +203,7 @@ fn rows_of_tuples(rows: usize, rounds: usize, constant: bool) {
 
 fn executions(rows: usize, rounds: usize, both: bool) {
     // SAFETY: the function asks nothing of its numbers.
-    let proved = |rounds| unsafe { rowbench_execute_rows(rows, rounds, both) };
+    let proved = |rounds| unsafe { rowbench_execute_rows(rows, rounds, both as u8) };
     let plain = |rounds| plain_execute_rows(rows, rounds, both);
     assert_eq!(proved(16), plain(16));
     let times = least_of_rounds(
@@ -200,6 +216,35 @@ fn executions(rows: usize, rounds: usize, both: bool) {
     report(name, rows, times);
 }
 
+fn executions_beside_a_constant(rows: usize, rounds: usize) {
+    // SAFETY: the function asks nothing of its numbers.
+    let proved = |rounds| unsafe { rowbench_execute_rows(rows, rounds, 2) };
+    let plain = |rounds| plain_beside_a_constant(rows, rounds);
+    assert_eq!(proved(16), plain(16));
+    let times = least_of_rounds(
+        rows,
+        rounds,
+        |rounds| _ = black_box(proved(rounds)),
+        |rounds| _ = black_box(plain(rounds)),
+    );
+    report("execute_rows, a constant", rows, times);
+}
+
+/// Two constants beside two columns with nulls in one, both through the proved call.
+fn executions_of_constants(rows: usize, rounds: usize) {
+    // SAFETY: the function asks nothing of its numbers.
+    let constants = |rounds| unsafe { rowbench_execute_rows(rows, rounds, 3) };
+    let columns = |rounds| unsafe { rowbench_execute_rows(rows, rounds, 0) };
+    assert_eq!(constants(16), 16 * 18);
+    let times = least_of_rounds(
+        rows,
+        rounds,
+        |rounds| _ = black_box(constants(rounds)),
+        |rounds| _ = black_box(columns(rounds)),
+    );
+    println!("{:<28}{rows:>10}{:>10.5}{:>10.3}{:>8.5}", "constants to columns", times.0, times.1, times.0 / times.1);
+}
+
 fn main() {
     println!("{:<28}{:>10}{:>10}{:>10}{:>8}", "loop", "rows", "proved", "plain", "ratio");
     for rows in [1024, 65536, 1_000_000] {
@@ -210,5 +255,7 @@ fn main() {
         rows_of_tuples(rows, rounds, true);
         executions(rows, rounds, false);
         executions(rows, rounds, true);
+        executions_beside_a_constant(rows, rounds);
     }
+    executions_of_constants(1 << 20, 8);
 }

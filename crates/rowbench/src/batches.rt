@@ -3,8 +3,8 @@ use crate::sum::Sum;
 use crate::tuples::two_columns;
 use bitlane::BitBuffer;
 use colbase::{
-    ArrayRef, Buffer, EmptyOptions, ExecutionArgs, ExecutionCtx, NativeInt, PrimitiveArray, Res,
-    Validity,
+    ArrayRef, Buffer, ConstantArray, EmptyOptions, ExecutionArgs, ExecutionCtx, NativeInt,
+    Nullability, PType, PrimitiveArray, Res, Scalar, ScalarValue, Validity,
 };
 use rowexec::execute_rows;
 use std::alloc::Global;
@@ -24,15 +24,25 @@ fn tenths(rows: usize, first: usize, ctx: ExecutionCtx) -> Res<Validity> {
     Ok(Validity::Array(bits))
 }
 
-/// Two columns of `rows` numbers, of which the first or both hold nulls.
-fn columns(rows: usize, both: bool, ctx: ExecutionCtx) -> Res<ExecutionArgs> {
-    let first = rising(rows, tenths(rows, 3, ctx)?, ctx)?;
-    let validity = if both {
-        tenths(rows, 7, ctx)?
-    } else {
-        Validity::NonNullable
+/// The number 9 in each row.
+fn nines(rows: usize, ctx: ExecutionCtx) -> Res<ArrayRef> {
+    let nine = Scalar::int(9, PType::I64, Nullability::NonNullable);
+    ConstantArray::try_new(nine, rows, ctx)
+}
+
+/// Two columns of `rows` numbers: with nulls in the first (0) or in both (1), a column without nulls beside a constant (2), or
+/// two constants.
+fn columns(rows: usize, shape: u8, ctx: ExecutionCtx) -> Res<ExecutionArgs> {
+    let first = match shape {
+        0 | 1 => rising(rows, tenths(rows, 3, ctx)?, ctx)?,
+        2 => rising(rows, Validity::NonNullable, ctx)?,
+        _ => nines(rows, ctx)?,
     };
-    let second = rising(rows, validity, ctx)?;
+    let second = match shape {
+        0 => rising(rows, Validity::NonNullable, ctx)?,
+        1 => rising(rows, tenths(rows, 7, ctx)?, ctx)?,
+        _ => nines(rows, ctx)?,
+    };
     let columns = two_columns(first, second, ctx.alloc())?;
     Ok(ExecutionArgs::new(columns, rows))
 }
@@ -41,6 +51,12 @@ fn columns(rows: usize, both: bool, ctx: ExecutionCtx) -> Res<ExecutionArgs> {
 fn number_at(array: &ArrayRef, row: usize) -> i64 {
     if row >= array.len() || !array.is_valid(row) {
         return 0;
+    }
+    if let Some(constant) = array.as_constant() {
+        return match constant.value() {
+            Some(ScalarValue::Int(number)) => i64::try_from(*number).unwrap_or(0),
+            _ => 0,
+        };
     }
     match i64::values_of(array) {
         Some(values) => match values.as_slice().get(row) {
@@ -53,9 +69,9 @@ fn number_at(array: &ArrayRef, row: usize) -> i64 {
 
 /// The sums of two columns, which are executed anew in each round: the total over the rounds of the number in the row
 /// of that round.
-pub fn executed_in_rounds(alloc: Global, rows: usize, rounds: usize, both: bool) -> Res<i64> {
+pub fn executed_in_rounds(alloc: Global, rows: usize, rounds: usize, shape: u8) -> Res<i64> {
     let ctx = ExecutionCtx::new(alloc);
-    let args = columns(rows, both, ctx)?;
+    let args = columns(rows, shape, ctx)?;
     let mut total = 0i64;
     for round in 0..rounds {
         let sums = execute_rows(&Sum, &EmptyOptions, &args, ctx)?;

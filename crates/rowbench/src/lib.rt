@@ -48,15 +48,16 @@ pub extern "C" fn rowbench_map_rows(
 }
 
 /// The total of one number of each answer of a row function that adds two columns of `rows` numbers, executed anew in each
-/// round. Every tenth row of the first column is null, or of both.
+/// round. With shape 0 every tenth row of the first column is null, with 1 of both; with 2 the second is a constant, with 3
+/// both are.
 #[unsafe(no_mangle)]
 pub extern "C" fn rowbench_execute_rows(
     alloc: Global,
     rows: usize,
     rounds: usize,
-    both: bool,
+    shape: u8,
 ) -> i64 {
-    match batches::executed_in_rounds(alloc, rows, rounds, both) {
+    match batches::executed_in_rounds(alloc, rows, rounds, shape) {
         Ok(total) => total,
         Err(_) => 0,
     }

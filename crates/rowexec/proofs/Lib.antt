@@ -3,6 +3,7 @@ pub mod Batches
 pub mod Casting
 pub mod Dense
 pub mod FullRows
+pub mod Known
 pub mod Masking
 pub mod Results
 pub mod StrictRows

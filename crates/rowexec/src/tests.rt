@@ -3,5 +3,6 @@ mod batches;
 mod columns;
 mod functions;
 mod labels;
+mod prepared;
 mod refusals;
 mod vtable;

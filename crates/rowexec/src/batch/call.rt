@@ -142,7 +142,8 @@ fn execute_dense<F: RowFn>(
         label: None,
         ctx,
     };
-    function.dispatch(options, types, visitor, ctx)
+    let visited = function.dispatch(options, types, visitor, ctx)?;
+    visited.answer
 }
 
 // The values with their nulls, under the label.

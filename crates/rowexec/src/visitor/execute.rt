@@ -1,9 +1,12 @@
 ghost use Rattle.std.specs.Prelude.{◌≡◌};
+ghost use Rattle.rowtypes.specs.Rows.{ReadsKnown};
 
 use crate::execute::execute_owned_infallible;
-use colbase::{ArrayRef, DType, ExecutionCtx, Res};
+use crate::visitor::Visited;
+use colbase::{ArrayRef, DType, ExecutionCtx, Fault, Res};
 use rowplan::{RowSpec, RowVisitor};
 use rowtypes::{ElementTuple, IndexedElementTuple, OutputElement};
+use std::alloc::AllocError;
 
 /// Runs all rows on what the columns show.
 #[derive(Drop)]
@@ -17,12 +20,13 @@ pub(crate) struct ExecuteRows<'a, F: RowSpec> {
 }
 
 impl<'a, F: RowSpec> RowVisitor<F> for ExecuteRows<'a, F> {
-    ghost use Rattle.std.specs.Prelude.{MatchResult, option_map};
+    ghost use Rattle.std.specs.Prelude.{◌≡◌, MatchResult, option_map};
     ghost use Rattle.colbase.specs.LogicalTypeOf.{logical_type};
+    ghost use Rattle.colbase.specs.declared.fault.Fault.TheVariants.{Memory};
     ghost use Rattle.rowtypes.specs.Rows.{DecodeFails, logical_types};
-    ghost use Rattle.rowexec.specs.Visits.{DenseColumn, IsReady};
+    ghost use Rattle.rowexec.specs.Visits.{DenseColumn, IsReady, RanRows};
 
-    type VisitResult = ArrayRef;
+    type VisitResult = Visited<ArrayRef>;
 
     ghost options = { λ s. s.options.now };
 
@@ -33,8 +37,11 @@ impl<'a, F: RowSpec> RowVisitor<F> for ExecuteRows<'a, F> {
     ghost ready = { λ s. IsReady (F.fits s.options.now (logical_types s.types.now)) (logical_types s.types.now) s.columns.now s.row_count };
 
     ghost gives = { λ s r. MatchResult r
+        (λ v. RanRows s.row_count
         (DenseColumn (F.meaning s.options.now (logical_types s.types.now)) F.Evidence.neutral (F.shown s.options.now (logical_types s.types.now)) (F.output s.options.now (logical_types s.types.now)).storage s.columns.now s.row_count)
-        (DecodeFails (F.reads s.options.now (logical_types s.types.now)) 0 s.columns.now) };
+        (DecodeFails (F.reads s.options.now (logical_types s.types.now)) 0 s.columns.now)
+        v.answer v.prepares v.steps)
+        (λ e. e ≡ Memory) };
 
     fn with_output_dtype(self, dtype: DType) -> ExecuteRows<'a, F> {
         ExecuteRows {
@@ -47,11 +54,53 @@ impl<'a, F: RowSpec> RowVisitor<F> for ExecuteRows<'a, F> {
         }
     }
 
-    fn visit<Args: IndexedElementTuple, Out: OutputElement, A: Fn(Args::Elems) -> Out>(
-        self,
-        apply: A,
-    ) -> Res<ArrayRef> {
-        let decoded = Args::decode(self.columns, self.ctx)?;
-        execute_owned_infallible::<Args, Out, A>(&decoded, self.row_count, apply, self.ctx)
+    fn visit_prepared<
+        Args: IndexedElementTuple,
+        Out: OutputElement,
+        P: Drop,
+        R: FnOnce(Args::ConstElems) -> Result<P, AllocError>,
+        A: Fn(&P, Args::Elems) -> Out,
+    >(self, prepare: R, apply: A) -> Res<Visited<ArrayRef>> {
+        let decoded = match Args::decode(self.columns, self.ctx) {
+            Ok(decoded) => decoded,
+            Err(fault) => {
+                return Ok(Visited {
+                    answer: Err(fault),
+                    prepares: 0,
+                    steps: 0,
+                });
+            }
+        };
+        let prepared = match prepare(known_values::<Args>(&decoded)) {
+            Ok(prepared) => prepared,
+            Err(AllocError) => {
+                return Ok(Visited {
+                    answer: Err(Fault::Memory),
+                    prepares: 1,
+                    steps: 0,
+                });
+            }
+        };
+        let (answer, steps) = execute_owned_infallible::<Args, Out, P, A>(
+            &decoded,
+            self.row_count,
+            &prepared,
+            apply,
+            self.ctx,
+        );
+        Ok(Visited {
+            answer,
+            prepares: 1,
+            steps,
+        })
     }
+}
+
+// The arguments that are one value, each of which is read.
+fn known_values<Args: ElementTuple>(decoded: &Args::Columns) -> Args::ConstElems
+    requires { ReadsKnown Args.reads 0 (Args.known_of decoded.now) }
+    ensures known { Args.known result ≡ Args.known_of decoded.now }
+    ensures read { ReadsKnown Args.reads 0 (Args.known result) }
+{
+    Args::const_values(decoded)
 }

@@ -6,6 +6,7 @@ use crate::row_spec::RowSpec;
 use crate::visitor::RowVisitor;
 use colbase::{DType, ExecutionCtx, Res};
 use rowtypes::{ElementTuple, IndexedElementTuple, OutputElement};
+use std::alloc::AllocError;
 
 /// The visitor that plans a batch and runs no callback.
 #[derive(Drop)]
@@ -60,10 +61,13 @@ impl<'a, F: RowSpec> RowVisitor<F> for BatchPlanner<'a, F> {
         }
     }
 
-    fn visit<Args: IndexedElementTuple, Out: OutputElement, A: Fn(Args::Elems) -> Out>(
-        self,
-        _apply: A,
-    ) -> Res<BatchPlan> {
+    fn visit_prepared<
+        Args: IndexedElementTuple,
+        Out: OutputElement,
+        P: Drop,
+        R: FnOnce(Args::ConstElems) -> Result<P, AllocError>,
+        A: Fn(&P, Args::Elems) -> Out,
+    >(self, _prepare: R, _apply: A) -> Res<BatchPlan> {
         Args::validate(self.types)?;
         BatchPlan::new(Out::element_dtype(), self.label, owned_policy::<Args>())
     }

@@ -1,10 +1,17 @@
 ghost use Rattle.std.specs.Prelude.{◌≡◌, false, true, Some, Option, List, Result};
 
+ghost use Rattle.std.specs.Prelude.{Ok};
+ghost use Rattle.std.specs.Borrow.{Bor};
+
 use crate::row_spec::RowSpec;
 use colbase::{DType, Res};
 use rowtypes::{IndexedElementTuple, OutputElement};
+use std::alloc::AllocError;
 
 /// Who is handed the callbacks of a row function.
+///
+/// A callback may use a prepared value, which is made once in a visit from the arguments that are one value for all rows.
+/// A visit without one is its prepared form with nothing prepared.
 ///
 /// A visitor knows the options and the types of its call. Each visit asks that the elements, the output and the policy
 /// are those of the function's meanings, and that the callback agrees with the meaning of a row wherever the elements read
@@ -17,7 +24,7 @@ pub trait RowVisitor<F: RowSpec>: Sized + Drop {
     ghost use Rattle.colbase.specs.declared.dtype.Nullability.TheVariants.{NonNullable as not_nullable};
     ghost use Rattle.colbase.specs.LogicalTypeOf.{logical_type};
     ghost use Rattle.colbase.specs.declared.fault.Fault.{Fault};
-    ghost use Rattle.rowtypes.specs.Rows.{ReadsFrom};
+    ghost use Rattle.rowtypes.specs.Rows.{AgreesWith, ReadsFrom, ReadsKnown};
     ghost use Rattle.rowplan.specs.Outcomes.{done};
     ghost use Rattle.rowplan.specs.Policies.{owned_policy};
     ghost use Rattle.rowplan.specs.Visits.{SelectsElements, SelectsOutput};
@@ -45,6 +52,28 @@ pub trait RowVisitor<F: RowSpec>: Sized + Drop {
         ensures ready { ready self → ready result }
         ensures gives { (r : Result Self.VisitResult Fault) → gives result r → gives self r };
 
+    /// Runs a callback that gives a value for each row, with a value that `prepare` makes once from the arguments that
+    /// are one value. `prepare` may answer want of memory.
+    fn visit_prepared<
+        Args: IndexedElementTuple,
+        Out: OutputElement,
+        P: Drop,
+        R: FnOnce(Args::ConstElems) -> Result<P, AllocError>,
+        A: Fn(&P, Args::Elems) -> Out,
+    >(self, prepare: R, apply: A) -> Res<Self::VisitResult>
+        requires ready { ready self }
+        requires elements { SelectsElements Args.ARITY F.arity Args.accepts (F.fits (options self) (types self)) Args.reads (F.reads (options self) (types self)) Args.shown (F.shown (options self) (types self)) (types self) }
+        requires output { SelectsOutput Out.element_type (Out.states Out.placeholder) (F.output (options self) (types self)) (label self) (F.placeholder (options self) (types self)) (F.room (options self) (types self)) }
+        requires policy { F.policy (options self) (types self) ≡ owned_policy Args.DENSE_SAFE Args.DECODE_INFALLIBLE }
+        requires dense_safe { Args.DENSE_SAFE ≡ true }
+        requires decode_infallible { Args.DECODE_INFALLIBLE ≡ true }
+        requires undeferred { F.deferred (options self) (types self) ≡ false }
+        requires prepares { (k : Args.ConstElems) → ReadsKnown Args.reads 0 (Args.known k) → R.pre prepare k }
+        // The callback is lent the value that was prepared.
+        requires callable { (k : Args.ConstElems) (p : P) (q : Bor P) (e : Args.Elems) → ReadsKnown Args.reads 0 (Args.known k) → R.post prepare k (Ok p) → q.now ≡ p → ReadsFrom Args.reads 0 (Args.cells e) → AgreesWith (Args.known k) (Args.cells e) → A.pre apply q e }
+        requires agrees { (k : Args.ConstElems) (p : P) (q : Bor P) (e : Args.Elems) (r : Out) → ReadsKnown Args.reads 0 (Args.known k) → R.post prepare k (Ok p) → q.now ≡ p → ReadsFrom Args.reads 0 (Args.cells e) → AgreesWith (Args.known k) (Args.cells e) → A.post apply q e r → F.meaning (options self) (types self) (Args.cells e) ≡ done (Out.states r) F.Evidence.neutral }
+        ensures { gives self result };
+
     /// Runs a callback that gives a value for each row.
     fn visit<Args: IndexedElementTuple, Out: OutputElement, A: Fn(Args::Elems) -> Out>(
         self,
@@ -59,7 +88,16 @@ pub trait RowVisitor<F: RowSpec>: Sized + Drop {
         requires undeferred { F.deferred (options self) (types self) ≡ false }
         requires callable { (e : Args.Elems) → ReadsFrom Args.reads 0 (Args.cells e) → A.pre apply e }
         requires agrees { (e : Args.Elems) (r : Out) → ReadsFrom Args.reads 0 (Args.cells e) → A.post apply e r → F.meaning (options self) (types self) (Args.cells e) ≡ done (Out.states r) F.Evidence.neutral }
-        ensures { gives self result };
+        ensures { gives self result }
+    {
+        self.visit_prepared::<Args, Out, (), _, _>(
+            |_: Args::ConstElems| Ok(()),
+            |_nothing: &(), elems: Args::Elems| -> Out
+                requires { A.pre apply elems }
+                ensures { A.post apply elems result }
+            { apply(elems) },
+        )
+    }
 
     /// Runs a callback that gives a truth value for each row. `multiversioned` changes no result.
     fn visit_bool<Args: IndexedElementTuple, A: Fn(Args::Elems) -> bool>(

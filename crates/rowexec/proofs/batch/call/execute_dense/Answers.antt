@@ -1,7 +1,7 @@
 use Rattle.std.proofs.Common.{◌≡◌, ◌∙◌, length, ap, sym}
 use Rattle.rowtypes.specs.Rows.{logical_types}
 use Rattle.rowexec.specs.Rows.{types_of}
-use Rattle.rowexec.proofs.Batches.{as_many_types}
+use Rattle.rowexec.proofs.Batches.{as_many_types, each_decoded}
 use Rattle.rowexec.proofs.StrictRows.{accepted_from, as_many, rows_from}
 use Rattle.rowexec.proofs.batch.call.execute_dense.Goals as goal
 
@@ -16,5 +16,5 @@ dispatch-requires-clause-ready g c =
     record {
       types_are = same;
       accepted = accepted_from (g.F.RowSpec.fits c.args.options.now types) 0 columns (cc (same, c.requires.types, c.requires.planned.fit));
-      rows_are = rows_from c.row_count.result 0 columns (cc (c.columns.ensures, c.row_count.ensures, c.requires.fits.rows));
+      asked = each_decoded c.row_count.result columns (rows_from c.row_count.result 0 columns (cc (c.columns.ensures, c.row_count.ensures, c.requires.fits.rows)));
     }

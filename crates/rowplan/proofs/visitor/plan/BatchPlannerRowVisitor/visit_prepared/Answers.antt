@@ -4,7 +4,7 @@ use Rattle.colbase.specs.LogicalTypeOf.{logical_type}
 use Rattle.rowtypes.specs.Rows.{first_refused, logical_types}
 use Rattle.rowplan.proofs.Planning.{planned_as}
 use Rattle.rowplan.proofs.Types.{as_many, refused_same}
-use Rattle.rowplan.proofs.visitor.plan.BatchPlannerRowVisitor.visit.Goals as goal
+use Rattle.rowplan.proofs.visitor.plan.BatchPlannerRowVisitor.visit_prepared.Goals as goal
 
 pub validate-requires : goal.validate-requires
 validate-requires g c = sym (as_many c.args.self.types.now) ∙ c.requires.elements.count ∙ sym c.requires.elements.arity
