@@ -4,6 +4,7 @@ pub mod Casting
 pub mod Dense
 pub mod FullRows
 pub mod Masking
+pub mod OneRow
 pub mod Results
 pub mod StrictRows
 pub mod Tables
