@@ -1,5 +1,5 @@
 -- One row that stands for all rows.
-use Rattle.std.proofs.Common.{◌≡◌, ◌∙◌, ℕ, suc, ◌<◌, Bool, true, false, ◌&&◌, arith, List, [], ◌∷◌, ◌≤◌, Option, None, Some, Result, Ok, Err, inl, refl, ap, subst, sym}
+use Rattle.std.proofs.Common.{◌≡◌, ◌∙◌, ℕ, ◌<◌, Bool, true, false, ◌&&◌, arith, List, [], ◌∷◌, ◌≤◌, Option, None, Some, Result, Ok, Err, inl, refl, ap, subst, sym}
 use Rattle.std.specs.Prelude.{IfErr, IfOk, MatchResult, cond, is_some, nat_lt, option_map}
 use Rattle.colbase.specs.Arrays.{Array, constant, constant_cell, dtype, extension, len, masked, row}
 use Rattle.colbase.specs.Cell.{Cell}
@@ -17,6 +17,8 @@ use Rattle.rowplan.specs.Outcomes.{Outcome}
 use Rattle.rowexec.specs.Counts.{each_one_value, is_no_nulls, is_one_value, one_row, some_column}
 use Rattle.rowexec.specs.Rows.{full_cells, with_cell}
 use Rattle.rowexec.specs.Visits.{DenseColumn, DoneRow, RanRows}
+use Rattle.rowexec.proofs.Batches.{both_are}
+use Rattle.rowexec.proofs.FullRows.{picked}
 use Rattle.rowexec.proofs.Results.{err_then, match_result, ok_then, three_then}
 
 both_parts : (a b : Bool) → (a && b) ≡ true → (a ≡ true) × (b ≡ true)
@@ -39,10 +41,6 @@ value_row (constant s n) i x k e = e
 value_row (masked (constant s n) w) i x k e = unmasked_row (valid_at w i) (option_map cell_of s.value) x (no_null_at w i k) e
 value_row (extension t (constant s n)) i x k e = e
 value_row _ i x k e = absurd (cc)
-
-picked : (b : Bool) (o : Option Cell) (x : Cell) → cond b o None ≡ Some x → o ≡ Some x
-picked true o x h = h
-picked false o x h = absurd (cc)
 
 -- the cells of each row
 pub record EachRow (arrays : List Array) : Type 0 where
@@ -78,9 +76,6 @@ each_row (a ∷ arrays) h =
 no_length : (o : Option Cell) (m n : ℕ) → is_some o ≡ true → is_length n (length_unless o m) ≡ true
 no_length (Some c) m n h = refl
 no_length None m n h = absurd (cc)
-
-both_are : (a b : Bool) → a ≡ true → b ≡ true → (a && b) ≡ true
-both_are a b p q = cc (p, q)
 
 -- columns that are one value are decoded for any number of rows
 pub one_decoded : (n : ℕ) (arrays : List Array) → each_one_value arrays ≡ true → each_length n (decoded_lengths arrays) ≡ true

@@ -1,5 +1,4 @@
-use Rattle.std.proofs.Common.{◌≡◌, ◌∙◌, true, ap, sym}
-use Rattle.rowtypes.specs.Rows.{logical_types}
+use Rattle.std.proofs.Common.{◌∙◌, ap, sym}
 use Rattle.rowplan.specs.Outputs.{any_nullable}
 use Rattle.rowexec.specs.Rows.{types_of}
 use Rattle.rowexec.proofs.StrictRows.{rows_from}

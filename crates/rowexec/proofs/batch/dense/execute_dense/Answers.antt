@@ -1,8 +1,7 @@
-use Rattle.std.proofs.Common.{◌≡◌, ◌∙◌, length, ap, sym}
-use Rattle.rowexec.specs.Rows.{types_of}
+use Rattle.std.proofs.Common.{◌∙◌, length, ap, sym}
 use Rattle.rowexec.proofs.Batches.{as_many_types}
 use Rattle.rowexec.proofs.StrictRows.{accepted_from, as_many}
-use Rattle.rowtypes.specs.Rows.{first_refused, logical_types}
+use Rattle.rowtypes.specs.Rows.{logical_types}
 use Rattle.rowexec.proofs.batch.dense.execute_dense.Goals as goal
 
 pub dispatch-requires-clause-arity : goal.dispatch-requires-clause-arity
