@@ -25,7 +25,7 @@ length_is : (o : Option Cell) (m n : ℕ) → m ≡ n → is_length n (length_un
 length_is None m n e = grind (arith, nat_tests)
 length_is (Some c) m n e = refl
 
-both_are : (a b : Bool) → a ≡ true → b ≡ true → (a && b) ≡ true
+pub both_are : (a b : Bool) → a ≡ true → b ≡ true → (a && b) ≡ true
 both_are a b p q = cc (p, q)
 
 pub each_decoded : (n : ℕ) (arrays : List Array) → EachHasRows n arrays → each_length n (decoded_lengths arrays) ≡ true

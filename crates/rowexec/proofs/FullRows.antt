@@ -21,7 +21,7 @@ constant_row (masked (constant s n) v) i x c e h = under_mask (valid_at v i) (op
 constant_row (extension t (constant s n)) i x c e h = cc (e, h)
 constant_row _ i x c e h = absurd (cc)
 
-picked : (b : Bool) (o : Option Cell) (x : Cell) → cond b o None ≡ Some x → o ≡ Some x
+pub picked : (b : Bool) (o : Option Cell) (x : Cell) → cond b o None ≡ Some x → o ≡ Some x
 picked true o x h = h
 picked false o x h = absurd (cc)
 

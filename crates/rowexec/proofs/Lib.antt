@@ -5,6 +5,7 @@ pub mod Dense
 pub mod FullRows
 pub mod Known
 pub mod Masking
+pub mod OneRow
 pub mod Results
 pub mod StrictRows
 pub mod Tables

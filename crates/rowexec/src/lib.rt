@@ -7,7 +7,7 @@ mod execute;
 mod visitor;
 mod vtable;
 
-pub use batch::{execute_rows, row_fn_return_dtype};
+pub use batch::{Counted, execute_rows, execute_rows_counted, row_fn_return_dtype};
 pub use engine::{CallEngine, RowEngine};
 pub use vtable::RowFnVTable;
 

@@ -1,6 +1,8 @@
 // Columns that tests make and read.
+use bitlane::BitBuffer;
 use colbase::{
-    ArrayRef, Buffer, ExecutionArgs, ExecutionCtx, PrimitiveArray, ScalarValue, Validity,
+    ArrayRef, Buffer, ConstantArray, DType, ExecutionArgs, ExecutionCtx, MaskedArray, Nullability,
+    PType, PrimitiveArray, Scalar, ScalarValue, Validity,
 };
 use std::alloc::Global;
 use std::test::Fail;
@@ -46,4 +48,29 @@ pub fn has_rows(array: &ArrayRef, rows: &[Option<i64>], ctx: ExecutionCtx) -> Re
         }
     }
     Ok(true)
+}
+
+/// A constant of numbers.
+pub fn constant(
+    alloc: Global,
+    value: i64,
+    nullability: Nullability,
+    rows: usize,
+) -> Result<ArrayRef, Fail> {
+    let scalar = Scalar::int(value as i128, PType::I64, nullability);
+    Ok(ConstantArray::try_new(scalar, rows, ExecutionCtx::new(alloc))?)
+}
+
+/// A constant of nulls, in the type of numbers.
+pub fn nulls(alloc: Global, rows: usize) -> Result<ArrayRef, Fail> {
+    let null = Scalar::null(DType::Primitive(PType::I64, Nullability::Nullable));
+    Ok(ConstantArray::try_new(null, rows, ExecutionCtx::new(alloc))?)
+}
+
+/// A constant of numbers under a mask, of as many rows as the mask.
+pub fn masked_constant(alloc: Global, value: i64, mask: &[bool]) -> Result<ArrayRef, Fail> {
+    let ctx = ExecutionCtx::new(alloc);
+    let bits = BitBuffer::collect_bool_in(alloc, mask.len(), |i| i < mask.len() && mask[i])?;
+    let child = constant(alloc, value, Nullability::NonNullable, mask.len())?;
+    Ok(MaskedArray::try_new(child, Validity::Array(bits), ctx)?)
 }

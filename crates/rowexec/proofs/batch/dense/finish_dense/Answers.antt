@@ -13,7 +13,7 @@ use Rattle.rowexec.specs.Rows.{StrictRow, full_cells, types_of}
 use Rattle.rowexec.proofs.Results.{ok_then}
 use Rattle.rowexec.proofs.StrictRows.{output_not_null, relabel_type, relabelled_type, strict_row}
 use Rattle.rowexec.proofs.Tables.{len_of_table, row_of_table}
-use Rattle.rowexec.proofs.batch.call.finish_dense.Goals as goal
+use Rattle.rowexec.proofs.batch.dense.finish_dense.Goals as goal
 
 pub relabel_output-requires : goal.relabel_output-requires
 relabel_output-requires g c =

@@ -1,0 +1,143 @@
+-- One row that stands for all rows.
+use Rattle.std.proofs.Common.{◌≡◌, ◌∙◌, ℕ, ◌<◌, Bool, true, false, ◌&&◌, arith, List, [], ◌∷◌, ◌≤◌, Option, None, Some, Result, Ok, Err, inl, refl, ap, subst, sym}
+use Rattle.std.specs.Prelude.{IfErr, IfOk, MatchResult, cond, is_some, nat_lt, option_map}
+use Rattle.colbase.specs.Arrays.{Array, constant, constant_cell, dtype, extension, len, masked, row}
+use Rattle.colbase.specs.Cell.{Cell}
+use Rattle.colbase.specs.CellOf.{cell_of}
+use Rattle.colbase.specs.LogicalType.{LogicalType}
+use Rattle.colbase.specs.Parts.{own_validity}
+use Rattle.colbase.specs.Valid.{valid_at, validity_kind}
+use Rattle.colbase.specs.declared.fault.Fault.{Fault}
+use Rattle.colbase.specs.declared.fault.Fault.TheVariants.{Memory}
+use Rattle.colbase.specs.declared.validity.Validity.{Validity}
+use Rattle.colbase.specs.declared.validity.Validity.TheVariants as v
+use Rattle.rowtypes.specs.Rows.{DecodeFails, decoded_lengths, each_length, is_length, length_unless, shown_from}
+use Rattle.rowtypes.specs.Shown.{batch_value}
+use Rattle.rowplan.specs.Outcomes.{Outcome}
+use Rattle.rowexec.specs.Counts.{each_one_value, is_no_nulls, is_one_value, one_row, some_column}
+use Rattle.rowexec.specs.Rows.{full_cells, with_cell}
+use Rattle.rowexec.specs.Visits.{DenseColumn, DoneRow, RanRows}
+use Rattle.rowexec.proofs.Batches.{both_are}
+use Rattle.rowexec.proofs.FullRows.{picked}
+use Rattle.rowexec.proofs.Results.{err_then, match_result, ok_then, three_then}
+
+both_parts : (a b : Bool) → (a && b) ≡ true → (a ≡ true) × (b ≡ true)
+both_parts true b h = (refl, h)
+both_parts false b h = absurd (cc)
+
+no_null_at : (w : Validity) (i : ℕ) → is_no_nulls (validity_kind w) ≡ true → valid_at w i ≡ true
+no_null_at v.NonNullable i h = refl
+no_null_at v.AllValid i h = refl
+no_null_at v.AllInvalid i h = absurd (cc)
+no_null_at (v.Array bits) i h = absurd (cc)
+
+unmasked_row : (b : Bool) (o : Option Cell) (x : Cell) → b ≡ true → o ≡ Some x → cond b o None ≡ Some x
+unmasked_row true o x h e = e
+unmasked_row false o x h e = absurd (cc)
+
+-- each row of a constant without nulls is its value
+value_row : (a : Array) (i : ℕ) (x : Cell) → is_no_nulls (validity_kind (own_validity a)) ≡ true → constant_cell a ≡ Some x → row a i ≡ Some x
+value_row (constant s n) i x k e = e
+value_row (masked (constant s n) w) i x k e = unmasked_row (valid_at w i) (option_map cell_of s.value) x (no_null_at w i k) e
+value_row (extension t (constant s n)) i x k e = e
+value_row _ i x k e = absurd (cc)
+
+-- the cells of each row
+pub record EachRow (arrays : List Array) : Type 0 where
+  pub cells : List Cell
+  pub each : (i : ℕ) → full_cells arrays i ≡ Some cells
+
+-- the value of an array that is one value
+record Value (o : Option Cell) : Type 0 where
+  pub value : Cell
+  pub is : o ≡ Some value
+
+value_of : (o : Option Cell) → is_some o ≡ true → Value o
+value_of (Some x) h = record { value = x; is = refl }
+value_of None h = absurd (cc)
+
+with_both : (o : Option Cell) (rest : Option (List Cell)) (x : Cell) (cells : List Cell) → o ≡ Some x → rest ≡ Some cells → with_cell o rest ≡ Some (x ∷ cells)
+with_both (Some y) (Some others) x cells p q = cc (p, q)
+with_both (Some y) None x cells p q = absurd (cc)
+with_both None rest x cells p q = absurd (cc)
+
+pub each_row : (arrays : List Array) → each_one_value arrays ≡ true → EachRow arrays
+each_row [] h = record { cells = []; each = λ i. refl }
+each_row (a ∷ arrays) h =
+    let p = both_parts (is_one_value a) (each_one_value arrays) h in
+    let q = both_parts (is_no_nulls (validity_kind (own_validity a))) (is_some (batch_value a)) p.0 in
+    let known = value_of (batch_value a) q.1 in
+    let later = each_row arrays p.1 in
+    record {
+      cells = known.value ∷ later.cells;
+      each = λ i. with_both (row a i) (full_cells arrays i) known.value later.cells (value_row a i known.value q.0 (picked (nat_lt 0 (len a)) (constant_cell a) known.value known.is)) (later.each i);
+    }
+
+no_length : (o : Option Cell) (m n : ℕ) → is_some o ≡ true → is_length n (length_unless o m) ≡ true
+no_length (Some c) m n h = refl
+no_length None m n h = absurd (cc)
+
+-- columns that are one value are decoded for any number of rows
+pub one_decoded : (n : ℕ) (arrays : List Array) → each_one_value arrays ≡ true → each_length n (decoded_lengths arrays) ≡ true
+one_decoded n [] h = refl
+one_decoded n (a ∷ arrays) h =
+    let p = both_parts (is_one_value a) (each_one_value arrays) h in
+    let q = both_parts (is_no_nulls (validity_kind (own_validity a))) (is_some (batch_value a)) p.0 in
+    both_are _ _ (no_length (batch_value a) (len a) n q.1) (one_decoded n arrays p.1)
+
+pub each_of_one : (n : ℕ) (columns : List Array) → one_row n columns ≡ true → each_one_value columns ≡ true
+each_of_one n columns h =
+    let p = both_parts (nat_lt 0 n) (some_column columns && each_one_value columns) h in
+    (both_parts (some_column columns) (each_one_value columns) p.1).1
+
+moved : {E : Type 0} (meaning : List Cell → Outcome E) (neutral : E) (shown cells : List Cell) (r s : Option Cell) → shown ≡ cells → r ≡ s → DoneRow meaning neutral shown r → DoneRow meaning neutral cells s
+moved meaning neutral shown cells r s p q d = record { cell = d.cell; is = sym q ∙ d.is; outcome = ap meaning (sym p) ∙ d.outcome }
+
+-- a column whose rows are all the first row of the values of one row
+pub repeats : {E : Type 0} (meaning : List Cell → Outcome E) (neutral : E) (shown : ℕ → Array → ℕ → Cell) (storage : Option LogicalType) (columns : List Array) (n : ℕ) (one a : Array) → each_one_value columns ≡ true → DenseColumn meaning neutral shown storage columns 1 one → dtype a ≡ dtype one → len a ≡ n → ((i : ℕ) → row a i ≡ row one 0) → DenseColumn meaning neutral shown storage columns n a
+repeats meaning neutral shown storage columns n one a h d t k rs =
+    let same = each_row columns h in
+    let first : 0 < 1 = omega arith in
+    record {
+      stored = d.stored ∙ ap Some (sym t);
+      counted = k;
+      each = λ i b. moved meaning neutral (shown_from shown 0 columns 0) (shown_from shown 0 columns i) (row one 0) (row a i) (d.full 0 same.cells (same.each 0) ∙ sym (d.full i same.cells (same.each i))) (sym (rs i)) (d.each 0 first);
+      full = d.full;
+    }
+
+-- the answer of all rows, where that of one row is given
+pub ran_repeated : {E : Type 0} (meaning : List Cell → Outcome E) (neutral : E) (shown : ℕ → Array → ℕ → Cell) (storage : Option LogicalType) (columns : List Array) (n : ℕ) (reads : ℕ → Cell → Type 0) (told : Result Array Fault) (one : Array) (given : Result Array Fault) (prepares steps : ℕ) → each_one_value columns ≡ true → RanRows 1 (DenseColumn meaning neutral shown storage columns 1) (DecodeFails reads 0 columns) told prepares steps → told ≡ Ok one → IfOk given (λ a. dtype a ≡ dtype one) → IfOk given (λ a. len a ≡ n) → IfOk given (λ a. (i : ℕ) → row a i ≡ row one 0) → IfErr given (λ e. e ≡ Memory) → RanRows 1 (DenseColumn meaning neutral shown storage columns n) (DecodeFails reads 0 columns) given prepares steps
+ran_repeated meaning neutral shown storage columns n reads told one given prepares steps h ran is t k rs m =
+    let One : Array → Type 0 = DenseColumn meaning neutral shown storage columns 1 in
+    let All : Array → Type 0 = DenseColumn meaning neutral shown storage columns n in
+    let Fails : Fault → Type 0 = DecodeFails reads 0 columns in
+    let Told : Result Array Fault → Type 0 = λ r. MatchResult r One Fails in
+    let Counts : Result Array Fault → Type 0 = λ r. IfOk r (λ a. 1 ≤ steps) in
+    let first : One one = subst Told is ran.answered in
+    let least : 1 ≤ steps = subst Counts is ran.least in
+    record {
+      answered = match_result given All Fails
+          (three_then given (λ a. dtype a ≡ dtype one) (λ a. len a ≡ n) (λ a. (i : ℕ) → row a i ≡ row one 0) All t k rs (λ a p q r. repeats meaning neutral shown storage columns n one a h first p q r))
+          (err_then given (λ e. e ≡ Memory) Fails m (λ e p. inl p));
+      prepared = ran.prepared;
+      most = ran.most;
+      least = ok_then (λ a. len a ≡ n) (λ a. 1 ≤ steps) given (λ a p. least) k;
+    }
+
+pub ran_failed : (n : ℕ) (One All : Array → Type 0) (Fails : Fault → Type 0) (told : Result Array Fault) (e : Fault) (given : Result Array Fault) (prepares steps : ℕ) → RanRows n One Fails told prepares steps → told ≡ Err e → given ≡ Err e → RanRows n All Fails given prepares steps
+ran_failed n One All Fails told e given prepares steps ran is same =
+    let Told : Result Array Fault → Type 0 = λ r. MatchResult r One Fails in
+    let Given : Result Array Fault → Type 0 = λ r. MatchResult r All Fails in
+    let Counts : Result Array Fault → Type 0 = λ r. IfOk r (λ a. n ≤ steps) in
+    let fails : Fails e = subst Told is ran.answered in
+    record {
+      answered = subst Given (sym same) fails;
+      prepared = ran.prepared;
+      most = ran.most;
+      least = subst Counts (sym same) tt;
+    }
+
+pub ran_same : (n : ℕ) (Gives : Array → Type 0) (Fails : Fault → Type 0) (told given : Result Array Fault) (prepares steps : ℕ) → given ≡ told → RanRows n Gives Fails told prepares steps → RanRows n Gives Fails given prepares steps
+ran_same n Gives Fails told given prepares steps e ran =
+    let Same : Result Array Fault → Type 0 = λ r. RanRows n Gives Fails r prepares steps in
+    subst Same (sym e) ran
