@@ -1,5 +1,4 @@
 ghost use Rattle.std.specs.Prelude.{◌≡◌, false, true, Some, Option, List, Result};
-
 ghost use Rattle.std.specs.Prelude.{Ok};
 ghost use Rattle.std.specs.Borrow.{Bor};
 
