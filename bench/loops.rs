@@ -216,9 +216,9 @@ fn executions(rows: usize, rounds: usize, both: bool) {
     report(name, rows, times);
 }
 
-fn executions_beside_a_constant(rows: usize, rounds: usize) {
+fn executions_beside_a_constant(rows: usize, rounds: usize, prepared: bool) {
     // SAFETY: the function asks nothing of its numbers.
-    let proved = |rounds| unsafe { rowbench_execute_rows(rows, rounds, 2) };
+    let proved = |rounds| unsafe { rowbench_execute_rows(rows, rounds, if prepared { 4 } else { 2 }) };
     let plain = |rounds| plain_beside_a_constant(rows, rounds);
     assert_eq!(proved(16), plain(16));
     let times = least_of_rounds(
@@ -227,7 +227,8 @@ fn executions_beside_a_constant(rows: usize, rounds: usize) {
         |rounds| _ = black_box(proved(rounds)),
         |rounds| _ = black_box(plain(rounds)),
     );
-    report("execute_rows, a constant", rows, times);
+    let name = if prepared { "execute_rows, prepared" } else { "execute_rows, a constant" };
+    report(name, rows, times);
 }
 
 /// Two constants beside two columns with nulls in one, both through the proved call.
@@ -255,7 +256,8 @@ fn main() {
         rows_of_tuples(rows, rounds, true);
         executions(rows, rounds, false);
         executions(rows, rounds, true);
-        executions_beside_a_constant(rows, rounds);
+        executions_beside_a_constant(rows, rounds, false);
+        executions_beside_a_constant(rows, rounds, true);
     }
     executions_of_constants(1 << 20, 8);
 }

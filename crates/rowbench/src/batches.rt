@@ -1,5 +1,6 @@
 // Whole calls of a row function.
 use crate::sum::Sum;
+use crate::sum_prepared::SumPrepared;
 use crate::tuples::two_columns;
 use bitlane::BitBuffer;
 use colbase::{
@@ -30,12 +31,12 @@ fn nines(rows: usize, ctx: ExecutionCtx) -> Res<ArrayRef> {
     ConstantArray::try_new(nine, rows, ctx)
 }
 
-/// Two columns of `rows` numbers: with nulls in the first (0) or in both (1), a column without nulls beside a constant (2), or
-/// two constants.
+/// Two columns of `rows` numbers: with nulls in the first (0) or in both (1), a column without nulls beside a constant (2, 4),
+/// or two constants.
 fn columns(rows: usize, shape: u8, ctx: ExecutionCtx) -> Res<ExecutionArgs> {
     let first = match shape {
         0 | 1 => rising(rows, tenths(rows, 3, ctx)?, ctx)?,
-        2 => rising(rows, Validity::NonNullable, ctx)?,
+        2 | 4 => rising(rows, Validity::NonNullable, ctx)?,
         _ => nines(rows, ctx)?,
     };
     let second = match shape {
@@ -74,7 +75,10 @@ pub fn executed_in_rounds(alloc: Global, rows: usize, rounds: usize, shape: u8) 
     let args = columns(rows, shape, ctx)?;
     let mut total = 0i64;
     for round in 0..rounds {
-        let sums = execute_rows(&Sum, &EmptyOptions, &args, ctx)?;
+        let sums = match shape {
+            4 => execute_rows(&SumPrepared, &EmptyOptions, &args, ctx)?,
+            _ => execute_rows(&Sum, &EmptyOptions, &args, ctx)?,
+        };
         total = total.wrapping_add(number_at(&sums, round));
     }
     Ok(total)

@@ -8,6 +8,7 @@ mod batches;
 mod bits;
 mod pairs;
 mod sum;
+mod sum_prepared;
 mod tuples;
 
 use bitlane::map_into;
@@ -49,7 +50,7 @@ pub extern "C" fn rowbench_map_rows(
 
 /// The total of one number of each answer of a row function that adds two columns of `rows` numbers, executed anew in each
 /// round. With shape 0 every tenth row of the first column is null, with 1 of both; with 2 the second is a constant, with 3
-/// both are.
+/// both are, and 4 is as 2 by a prepared visit.
 #[unsafe(no_mangle)]
 pub extern "C" fn rowbench_execute_rows(
     alloc: Global,

@@ -1,10 +1,12 @@
 pub mod Answered
+pub mod Exact
 pub mod FaultNumbers
 pub mod Items
 pub mod JsonText
 pub mod Lifted
 pub mod Lines
 pub mod Names
+pub mod Nested
 pub mod OnLiterals
 pub mod Ranges
 pub mod SameElements

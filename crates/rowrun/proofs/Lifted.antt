@@ -1,5 +1,5 @@
 -- The column that an engine answers is the result of the batch.
-use Rattle.std.proofs.Common.{◌≡◌, ◌∙◌, ℕ, ◌<◌, Bool, true, List, length, get_or, Option, None, sym, subst, arith}
+use Rattle.std.proofs.Common.{◌≡◌, ◌∙◌, ℕ, ◌<◌, Bool, true, List, Option, None, sym, subst, arith}
 use Rattle.std.specs.Prelude.{IfOk, Result, Ok, Err}
 use Rattle.bitlane.proofs.Tables.{length-tabulate, get_or-tabulate}
 use Rattle.colbase.specs.Arrays.{Array, column, dtype, len, row}

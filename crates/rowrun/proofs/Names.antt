@@ -4,7 +4,7 @@ use Rattle.std.specs.Prelude.{if◌then◌else◌, ◌==◌}
 use Rattle.std.proofs.Math.Seq.{take-append_seam, get_or-append_seam}
 use Rattle.std.proofs.lemmas.List.{drop_more, drop_all, take-append-drop}
 use Rattle.colbase.specs.declared.dtype.Nullability.TheVariants.{Nullable, NonNullable}
-use Rattle.rowrun.specs.Columns.{ends_in_mark, plain_name, name_nullability}
+use Rattle.rowrun.specs.Types.{ends_in_mark, plain_name, name_nullability}
 
 last_place : (plain : List ℕ) → length (plain ++ 63 ∷ []) - 1 ≡ length plain
 last_place plain = omega (arith, length-append plain (63 ∷ []))

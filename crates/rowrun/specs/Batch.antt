@@ -1,11 +1,11 @@
 -- The batch that bytes state, over the JSON value that `serde_json` reads from them.
-use Rattle.std.specs.Prelude.{ℕ, Bool, false, ◌&&◌, ◌==◌, nat_le, if◌then◌else◌, List, [], ◌∷◌, Option, Some, None, codes}
+use Rattle.std.specs.Prelude.{ℕ, ◌&&◌, nat_le, if◌then◌else◌, List, Option, Some, None, codes}
 use Rattle.std.specs.Str.{bytes_eq, is_utf8}
 use Rattle.serde_json.specs.Data.{Data}
 use Rattle.serde_json.specs.Read.{read}
 use Rattle.serde_json.specs.Find.{get}
 use Rattle.colbase.specs.Arrays.{Array}
-use Rattle.rowrun.specs.Columns.{columns_in}
+use Rattle.rowrun.specs.Columns.{columns_in, max_rows}
 use Rattle.rowrun.specs.Objects.{◌>>=◌, has_keys, text_in, array_in, number_in}
 use Rattle.rowrun.specs.declared.batch.Call.{Call}
 use Rattle.rowrun.specs.declared.batch.Call.TheVariants.{WrappingAdd}
@@ -21,10 +21,6 @@ pub record Batch : Type 0 where
 -- a function by its name, with its options
 unfoldable pub call_in : List ℕ → Data → Option Call
 call_in name options = if bytes_eq name (codes "wrapping_add") && has_keys 0 options then Some WrappingAdd else None
-
--- the most rows
-abbrev pub max_rows : ℕ
-max_rows = 1048576
 
 unfoldable pub batch_in : Data → Option Batch
 batch_in d = do

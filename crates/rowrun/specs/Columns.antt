@@ -1,11 +1,13 @@
 -- The columns that JSON values state.
-use Rattle.std.specs.Prelude.{ℕ, ℤ, pos, Bool, false, ◌+◌, ◌-◌, ◌==◌, if◌then◌else◌, List, map, length, slice_index, take, Option, Some, None, option_map, is_some, unwrap_or, codes}
+use Rattle.std.specs.Prelude.{ℕ, ℤ, pos, Bool, false, ◌+◌, ◌&&◌, nat_le, if◌then◌else◌, List, map, length, Option, Some, None, option_map, is_some, unwrap_or, codes}
 use Rattle.std.specs.List.{list_all}
+use Rattle.std.specs.Ordering.{nat_cmp, match_ordering}
+use Rattle.std.specs.Cmp.Lexicographic.{slice_cmp}
 use Rattle.std.specs.Str.{bytes_eq}
-use Rattle.serde_json.specs.Data.{Data, Items}
+use Rattle.serde_json.specs.Data.{Data, object, Items, Members, no_members, member}
 use Rattle.serde_json.specs.Find.{get, as_null, as_bool, as_number, as_i64, as_u64, as_str, as_array}
-use Rattle.colbase.specs.Arrays.{Array, primitive, bool}
-use Rattle.colbase.specs.Faults.{length_check}
+use Rattle.colbase.specs.Arrays.{Array, primitive, bool, constant, masked, len}
+use Rattle.colbase.specs.Faults.{first_of, length_check, null_check}
 use Rattle.colbase.specs.Fits.{in_range}
 use Rattle.colbase.specs.declared.fault.LayoutFault.{LayoutFault}
 use Rattle.colbase.specs.declared.validity.Validity.{Validity}
@@ -15,33 +17,9 @@ use Rattle.colbase.specs.declared.dtype.PType.{PType}
 use Rattle.colbase.specs.declared.dtype.PType.TheVariants.{I8, I16, I32, I64, U8, U16, U32, U64}
 use Rattle.colbase.specs.declared.dtype.Nullability.{Nullability}
 use Rattle.colbase.specs.declared.dtype.Nullability.TheVariants.{Nullable, NonNullable}
-use Rattle.rowrun.specs.Objects.{◌>>=◌, has_keys, text_in, array_in, all_in}
-
--- ---- types
-
--- whether `?` stands at the end of a type's name
-abbrev pub ends_in_mark : List ℕ → Bool
-ends_in_mark name = slice_index name (length name - 1) == 63
-
--- a type's name before that mark
-unfoldable pub plain_name : List ℕ → List ℕ
-plain_name name = if ends_in_mark name then take (length name - 1) name else name
-
-unfoldable pub name_nullability : List ℕ → Nullability
-name_nullability name = if ends_in_mark name then Nullable else NonNullable
-
-unfoldable pub integer_named : List ℕ → Option PType
-integer_named name =
-    if bytes_eq name (codes "i8") then Some I8 else if bytes_eq name (codes "i16") then Some I16
-    else if bytes_eq name (codes "i32") then Some I32 else if bytes_eq name (codes "i64") then Some I64
-    else if bytes_eq name (codes "u8") then Some U8 else if bytes_eq name (codes "u16") then Some U16
-    else if bytes_eq name (codes "u32") then Some U32 else if bytes_eq name (codes "u64") then Some U64 else None
-
-unfoldable pub integer_type : List ℕ → Option (PType × Nullability)
-integer_type name = option_map (λ p. (p, name_nullability name)) (integer_named (plain_name name))
-
-unfoldable pub bool_type : List ℕ → Option Nullability
-bool_type name = if bytes_eq (plain_name name) (codes "bool") then Some (name_nullability name) else None
+use Rattle.rowrun.specs.Objects.{◌>>=◌, has_keys, text_in, number_in, array_in, all_in}
+use Rattle.rowrun.specs.Scalars.{scalar_in}
+use Rattle.rowrun.specs.Types.{type_in, as_integer_type, as_bool_type}
 
 -- ---- validity
 
@@ -134,28 +112,63 @@ integer_array U64 n v items = array_of (unsigned_value U64) 0 (λ xs. primitive 
 
 unfoldable pub primitive_in : Data → Option Array
 primitive_in d = do
-  name ← text_in (codes "type") d
-  type ← integer_type name
+  stated ← type_in d
+  type ← as_integer_type stated
   items ← array_in (codes "values") d
   valid ← valid_in type.1 d
   if has_keys_and_valid valid 3 d then integer_array type.0 type.1 valid items else None
 
 unfoldable pub bool_in : Data → Option Array
 bool_in d = do
-  name ← text_in (codes "type") d
-  nullability ← bool_type name
+  stated ← type_in d
+  nullability ← as_bool_type stated
   items ← array_in (codes "values") d
   valid ← valid_in nullability d
   if has_keys_and_valid valid 3 d then array_of as_bool false bool nullability valid items else None
 
--- a column of the layout of this name
-abbrev pub column_of : List ℕ → Data → Option Array
-column_of layout d =
-    if bytes_eq layout (codes "primitive") then primitive_in d
-    else if bytes_eq layout (codes "bool") then bool_in d else None
+-- the most rows that a batch or a constant may have
+abbrev pub max_rows : ℕ
+max_rows = 1048576
 
-unfoldable pub column_in : Data → Option Array
-column_in d = text_in (codes "layout") d >>= (λ layout. column_of layout d)
+unfoldable pub constant_in : Data → Option Array
+constant_in d = do
+  type ← type_in d
+  value ← get (codes "value") d
+  scalar ← scalar_in type value
+  rows ← number_in (codes "len") d
+  if has_keys 4 d && nat_le rows max_rows then Some (constant scalar rows) else None
+
+-- the masked layout over a child, which has no null
+abbrev pub masked_by : Array → Validity → Option Array
+masked_by child v = unless_fault (first_of (length_check v (len child)) (null_check child)) (masked child v)
+
+-- `valid` may stand whatever the child's type is; without it no row is null
+unfoldable pub masked_in : Data → Array → Option Array
+masked_in d child = do
+  valid ← valid_in Nullable d
+  if has_keys_and_valid valid 2 d then masked_by child (unwrap_or valid validity.AllValid) else None
+
+-- a column of the layout of this name, over what the member `child` states
+abbrev pub column_of : List ℕ → Data → Option Array → Option Array
+column_of layout d child =
+    if bytes_eq layout (codes "primitive") then primitive_in d
+    else if bytes_eq layout (codes "bool") then bool_in d
+    else if bytes_eq layout (codes "constant") then constant_in d
+    else if bytes_eq layout (codes "masked") then child >>= masked_in d else None
+
+unfoldable pub column_over : Data → Option Array → Option Array
+column_over d child = text_in (codes "layout") d >>= (λ layout. column_of layout d child)
+
+-- by recursion over the JSON value, so that columns may nest as deep as it does
+unfoldable mutual
+  pub column_in : Data → Option Array
+  column_in (object ms) = column_over (object ms) (child_in ms)
+  column_in _ = None
+
+  -- the column that the member `child` states
+  pub child_in : Members → Option Array
+  child_in no_members = None
+  child_in (member key d ms) = match_ordering (slice_cmp nat_cmp (codes "child") key) (child_in ms) (column_in d) (child_in ms)
 
 abbrev pub columns_in : Items → Option (List Array)
 columns_in items = all_in column_in items

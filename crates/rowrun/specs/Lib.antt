@@ -6,6 +6,8 @@ pub mod Functions
 pub mod Objects
 pub mod Reading
 pub mod Results
+pub mod Scalars
 pub mod Shows
 pub mod Text
+pub mod Types
 pub mod Words

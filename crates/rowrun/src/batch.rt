@@ -1,6 +1,9 @@
 // A call and its arguments.
 use colbase::ExecutionArgs;
 
+/// The most rows that a batch or a constant may have.
+pub(crate) const MAX_ROWS: u64 = 1_048_576;
+
 /// The functions that a batch may call.
 #[derive(Clone, Copy, Debug, PartialEq, Eq)]
 pub(crate) enum Call {

@@ -1,10 +1,15 @@
 // A column from its JSON value.
+ghost use Rattle.std.specs.Prelude.{option_and_then, codes};
+ghost use Rattle.serde_json.specs.Find.{get};
 ghost use Rattle.serde_json.specs.View.{view};
-ghost use Rattle.rowrun.specs.Columns.{column_in};
+ghost use Rattle.rowrun.specs.Columns.{column_in, column_over};
 ghost use Rattle.rowrun.specs.Reading.{Gives};
 
 mod boolean;
+mod constant;
+mod masked;
 mod primitive;
+mod scalars;
 mod types;
 mod validity;
 mod values;
@@ -12,19 +17,35 @@ mod values;
 use crate::tree::{Stop, text_in};
 use boolean::bool_in;
 use colbase::{ArrayRef, ExecutionCtx};
+use constant::constant_in;
+use masked::masked_in;
 use primitive::primitive_in;
 use serde_json::Value;
 
 /// A column of any layout that is built.
-#[tactic(auto, unfolding(crate::specs::Columns::column_in))]
+#[cycle(column)]
 pub(crate) fn column_in(value: &Value, ctx: ExecutionCtx) -> Result<ArrayRef, Stop>
     ensures { Gives (λ a. a) result (column_in (view value.now)) }
+{
+    column_by_layout(value, ctx)
+}
+
+/// The same, where the column that the member `child` states may be built.
+#[cycle(column)]
+#[tactic(auto, unfolding(crate::specs::Columns::column_over))]
+fn column_by_layout(value: &Value, ctx: ExecutionCtx) -> Result<ArrayRef, Stop>
+    ensures { Gives (λ a. a) result (column_over (view value.now) (option_and_then column_in (get (codes "child") (view value.now)))) }
 {
     let layout = text_in(value, "layout").ok_or(Stop::NoBatch)?;
     if layout == "primitive" {
         primitive_in(value, ctx)
     } else if layout == "bool" {
         bool_in(value, ctx)
+    } else if layout == "constant" {
+        constant_in(value, ctx)
+    } else if layout == "masked" {
+        let child = value.get("child").ok_or(Stop::NoBatch)?;
+        masked_in(value, column_in(child, ctx)?, ctx)
     } else {
         Err(Stop::NoBatch)
     }

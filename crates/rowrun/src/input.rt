@@ -6,15 +6,12 @@ ghost use Rattle.rowrun.specs.BatchView.{batch_view};
 ghost use Rattle.rowrun.specs.Columns.{columns_in};
 ghost use Rattle.rowrun.specs.Reading.{Gives};
 
-use crate::batch::{Batch, Call};
+use crate::batch::{Batch, Call, MAX_ROWS};
 use crate::column::column_in;
 use crate::tree::{JsonStop, Stop, array_in, has_keys, json_in, number_in, text_in};
 use colbase::{ArrayRef, ExecutionArgs, ExecutionCtx};
 use serde_json::Value;
 use std::alloc::Global;
-
-/// The most rows that a batch may have.
-const MAX_ROWS: u64 = 1_048_576;
 
 /// Why bytes state no batch.
 #[derive(Debug, Drop)]

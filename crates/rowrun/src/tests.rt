@@ -3,6 +3,7 @@ ghost use Rattle.std.specs.Prelude.{◌<◌, ◌≡◌, length, IfOk};
 
 mod called;
 mod columns;
+mod forms;
 
 use super::*;
 use std::alloc::{AllocError, Global};
@@ -226,6 +227,10 @@ fn other_columns_are_not_built(rt: HostRuntime) -> Result<(), Fail> {
         ("\"type\":\"i64\",\"values\":[1]", 8),
         (
             "\"layout\":\"constant\",\"type\":\"i64\",\"value\":1,\"len\":1",
+            0,
+        ),
+        (
+            "\"layout\":\"text\",\"type\":\"utf8\",\"values\":[\"1\"]",
             8,
         ),
     ] {

@@ -7,7 +7,7 @@ ghost use Rattle.colbase.specs.declared.dtype.Nullability.TheVariants.{Nullable,
 ghost use Rattle.colbase.specs.declared.dtype.TimeUnit.TheVariants.{Nanoseconds, Microseconds, Milliseconds, Seconds, Days};
 ghost use Rattle.colbase.specs.declared.validity.Validity.TheVariants as validity;
 ghost use Rattle.colbase.specs.declared.values.PrimitiveValues.TheVariants.{I8 as Bytes, I64 as Numbers, U64 as Naturals};
-ghost use Rattle.colbase.specs.Arrays.{primitive as array, bool as truths};
+ghost use Rattle.colbase.specs.Arrays.{primitive as array, bool as truths, masked};
 ghost use Rattle.rowrun.specs.declared.batch.Call.TheVariants.{WrappingAdd};
 ghost use Rattle.rowrun.specs.Batch.{json_of, batch_of};
 ghost use Rattle.rowrun.specs.Columns.{column_in};
@@ -104,6 +104,22 @@ fn objects_state_the_worked_truth_values()
     ensures required { option_and_then column_in (json_of (codes "{\"layout\":\"bool\",\"type\":\"bool\",\"values\":[null]}")) ≡ None }
 {}
 
+#[tactic(auto, unfolding(crate::proofs::OnLiterals::batches_on_literals))]
+fn objects_state_the_worked_masks()
+    ensures marks { option_and_then column_in (json_of (codes "{\"layout\":\"masked\",\"child\":{\"layout\":\"primitive\",\"type\":\"i8\",\"values\":[5,6]},\"valid\":[true,false]}"))
+        ≡ Some (masked (array (Bytes (pos 5 ∷ pos 6 ∷ [])) validity.NonNullable) (validity.Array (true ∷ false ∷ []))) }
+    ensures all { option_and_then column_in (json_of (codes "{\"layout\":\"masked\",\"child\":{\"layout\":\"masked\",\"child\":{\"layout\":\"bool\",\"type\":\"bool?\",\"values\":[true]}}}"))
+        ≡ Some (masked (masked (truths (true ∷ []) validity.AllValid) validity.AllValid) validity.AllValid) }
+    ensures of_null { option_and_then column_in (json_of (codes "{\"layout\":\"masked\",\"child\":{\"layout\":\"primitive\",\"type\":\"i8?\",\"values\":[5,null]}}")) ≡ None }
+    ensures shorter { option_and_then column_in (json_of (codes "{\"layout\":\"masked\",\"child\":{\"layout\":\"primitive\",\"type\":\"i8\",\"values\":[5,6]},\"valid\":[true]}")) ≡ None }
+{}
+
+#[tactic(auto, unfolding(crate::proofs::OnLiterals::batches_on_literals))]
+fn other_objects_state_no_constant()
+    ensures other { option_and_then column_in (json_of (codes "{\"layout\":\"constant\",\"type\":\"null\",\"value\":1,\"len\":1}")) ≡ None }
+    ensures longest { option_and_then column_in (json_of (codes "{\"layout\":\"constant\",\"type\":\"null\",\"value\":null,\"len\":1048577}")) ≡ None }
+{}
+
 #[test]
 fn definitions_give_the_worked_values() {
     types_have_their_texts();
@@ -113,4 +129,6 @@ fn definitions_give_the_worked_values() {
     objects_state_the_worked_numbers();
     objects_state_the_worked_validities();
     objects_state_the_worked_truth_values();
+    objects_state_the_worked_masks();
+    other_objects_state_no_constant();
 }

@@ -3,10 +3,10 @@ ghost use Rattle.serde_json.specs.View.{view};
 ghost use Rattle.rowrun.specs.Columns.{laid_out, bool_in};
 ghost use Rattle.rowrun.specs.Reading.{Gives};
 
-use super::types::bool_type;
+use super::types::{as_bool_type, type_in};
 use super::validity::{has_keys_and_valid, valid_in};
 use super::values::{ColumnValue, array_of};
-use crate::tree::{Stop, array_in, text_in};
+use crate::tree::{Stop, array_in};
 use bitlane::BitBuffer;
 use colbase::{ArrayRef, BoolArray, ExecutionCtx, Validity};
 use serde_json::Value;
@@ -43,8 +43,8 @@ impl ColumnValue for bool {
 pub(super) fn bool_in(value: &Value, ctx: ExecutionCtx) -> Result<ArrayRef, Stop>
     ensures { Gives (λ a. a) result (bool_in (view value.now)) }
 {
-    let name = text_in(value, "type").ok_or(Stop::NoBatch)?;
-    let nullability = bool_type(name).ok_or(Stop::NoBatch)?;
+    let dtype = type_in(value).ok_or(Stop::NoBatch)?;
+    let nullability = as_bool_type(&dtype).ok_or(Stop::NoBatch)?;
     let items = array_in(value, "values").ok_or(Stop::NoBatch)?;
     let valid = valid_in(value, nullability, ctx)?;
     if !has_keys_and_valid(&valid, 3, value) {

@@ -4,10 +4,10 @@ ghost use Rattle.colbase.specs.Arrays.{primitive};
 ghost use Rattle.rowrun.specs.Columns.{laid_out, integer_array, primitive_in};
 ghost use Rattle.rowrun.specs.Reading.{Gives};
 
-use super::types::integer_type;
+use super::types::{as_integer_type, type_in};
 use super::validity::{has_keys_and_valid, valid_in};
 use super::values::{ColumnValue, array_of};
-use crate::tree::{Stop, array_in, text_in};
+use crate::tree::{Stop, array_in};
 use colbase::{
     ArrayRef, Buffer, ExecutionCtx, NativeInt, Nullability, PType, PrimitiveArray, Validity,
 };
@@ -52,8 +52,8 @@ fn integer_array(
 pub(super) fn primitive_in(value: &Value, ctx: ExecutionCtx) -> Result<ArrayRef, Stop>
     ensures { Gives (λ a. a) result (primitive_in (view value.now)) }
 {
-    let name = text_in(value, "type").ok_or(Stop::NoBatch)?;
-    let (ptype, nullability) = integer_type(name).ok_or(Stop::NoBatch)?;
+    let dtype = type_in(value).ok_or(Stop::NoBatch)?;
+    let (ptype, nullability) = as_integer_type(&dtype).ok_or(Stop::NoBatch)?;
     let items = array_in(value, "values").ok_or(Stop::NoBatch)?;
     let valid = valid_in(value, nullability, ctx)?;
     if !has_keys_and_valid(&valid, 3, value) {

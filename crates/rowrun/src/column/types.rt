@@ -1,11 +1,15 @@
-// The types of columns, by their names.
-ghost use Rattle.std.specs.Prelude.{◌≡◌};
-ghost use Rattle.rowrun.specs.Columns.{plain_name, name_nullability, integer_named, integer_type, bool_type};
+// The types of columns.
+ghost use Rattle.std.specs.Prelude.{◌≡◌, option_map};
+ghost use Rattle.colbase.specs.LogicalTypeOf.{logical_type};
+ghost use Rattle.serde_json.specs.View.{view};
+ghost use Rattle.rowrun.specs.Types.{plain_name, name_nullability, integer_named, marked_type, type_named, type_in, as_integer_type, as_bool_type};
 
-use colbase::{Nullability, PType};
+use crate::tree::text_in;
+use colbase::{DType, Nullability, PType};
+use serde_json::Value;
 
 /// A type's name without the `?` that makes it nullable.
-#[tactic(auto, unfolding(crate::specs::Columns::plain_name, crate::specs::Columns::name_nullability))]
+#[tactic(auto, unfolding(crate::specs::Types::plain_name, crate::specs::Types::name_nullability))]
 fn split_name(name: &str) -> (&str, Nullability)
     ensures plain { result.0.now ≡ plain_name name.now }
     ensures nullability { result.1 ≡ name_nullability name.now }
@@ -16,7 +20,7 @@ fn split_name(name: &str) -> (&str, Nullability)
     }
 }
 
-#[tactic(auto, unfolding(crate::specs::Columns::integer_named))]
+#[tactic(auto, unfolding(crate::specs::Types::integer_named))]
 fn integer_named(name: &str) -> Option<PType>
     ensures { result ≡ integer_named name.now }
 {
@@ -33,24 +37,53 @@ fn integer_named(name: &str) -> Option<PType>
     }
 }
 
-/// An integer type.
-#[tactic(auto, unfolding(crate::specs::Columns::integer_type))]
-pub(super) fn integer_type(name: &str) -> Option<(PType, Nullability)>
-    ensures { result ≡ integer_type name.now }
+/// A type that is nullable or not, by its name without the mark.
+#[tactic(auto, unfolding(crate::specs::Types::marked_type))]
+fn marked_type(plain: &str, nullability: Nullability) -> Option<DType>
+    ensures { option_map logical_type result ≡ marked_type plain.now nullability }
 {
-    let (plain, nullability) = split_name(name);
-    Some((integer_named(plain)?, nullability))
+    if plain == "bool" {
+        return Some(DType::Bool(nullability));
+    }
+    Some(DType::Primitive(integer_named(plain)?, nullability))
 }
 
-/// The nullability of the type of truth values.
-#[tactic(auto, unfolding(crate::specs::Columns::bool_type))]
-pub(super) fn bool_type(name: &str) -> Option<Nullability>
-    ensures { result ≡ bool_type name.now }
+/// The type of a name.
+#[tactic(auto, unfolding(crate::specs::Types::type_named))]
+fn type_named(name: &str) -> Option<DType>
+    ensures { option_map logical_type result ≡ type_named name.now }
 {
+    if name == "null" {
+        return Some(DType::Null);
+    }
     let (plain, nullability) = split_name(name);
-    if plain == "bool" {
-        Some(nullability)
-    } else {
-        None
+    marked_type(plain, nullability)
+}
+
+/// The type by the key `type`.
+#[tactic(auto, unfolding(crate::specs::Types::type_in))]
+pub(super) fn type_in(value: &Value) -> Option<DType>
+    ensures { option_map logical_type result ≡ type_in (view value.now) }
+{
+    type_named(text_in(value, "type")?)
+}
+
+/// An integer type, and whether it is nullable.
+pub(super) fn as_integer_type(dtype: &DType) -> Option<(PType, Nullability)>
+    ensures { result ≡ as_integer_type (logical_type dtype.now) }
+{
+    match dtype {
+        DType::Primitive(ptype, nullability) => Some((*ptype, *nullability)),
+        _ => None,
+    }
+}
+
+/// Whether the type of truth values is nullable.
+pub(super) fn as_bool_type(dtype: &DType) -> Option<Nullability>
+    ensures { result ≡ as_bool_type (logical_type dtype.now) }
+{
+    match dtype {
+        DType::Bool(nullability) => Some(*nullability),
+        _ => None,
     }
 }

@@ -1,0 +1,17 @@
+use Rattle.std.proofs.Common.{◌≡◌, Some, sym, rules, arith, subst, Option, codes}
+use Rattle.serde_json.specs.Find.{get}
+use Rattle.serde_json.specs.View.{view}
+use Rattle.colbase.specs.Arrays.{Array}
+use Rattle.rowrun.specs.Reading.{Gives}
+use Rattle.rowrun.proofs.Nested.{column_in-child, get_falls}
+use Rattle.rowrun.proofs.column.+column.Goals as goal
+
+pub column_by_layout-column_in-requires : goal.column_by_layout-column_in-requires
+column_by_layout-column_in-requires t c =
+    let found : get (codes "child") (view c.args.value.now) ≡ Some (view c.in_ok-child.child.now) = search rules in
+    let falls = get_falls (codes "child") (view c.args.value.now) (view c.in_ok-child.child.now) found in
+    (omega (arith, falls, c.decreases), tt)
+
+pub column_in-returns : goal.column_in-returns
+column_in-returns t c =
+    subst (λ (read : Option Array). Gives (λ a. a) c.column_by_layout.result read) (sym (column_in-child (view c.args.value.now))) c.column_by_layout.ensures
