@@ -22,7 +22,7 @@ use rowplan::{BatchPlan, RowFn};
 #[derive(Drop)]
 pub struct Counted {
     pub answer: Res<ArrayRef>,
-    /// The calls of `prepare`.
+    /// The calls of `prepare`. A visit without one prepares nothing, which counts too.
     pub prepares: u128,
     /// The calls of the callback of a row.
     pub steps: u128,

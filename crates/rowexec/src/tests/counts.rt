@@ -15,7 +15,7 @@ fn columns_run_each_row(rt: HostRuntime) -> Result<(), Fail> {
     let told = execute_rows_counted(&Sum, &EmptyOptions, &args, ExecutionCtx::new(rt.alloc()));
     assert!(rt; told.answer.is_ok());
     assert!(rt; told.steps == 3);
-    assert!(rt; told.prepares == 0);
+    assert!(rt; told.prepares == 1);
     Ok(())
 }
 
