@@ -47,14 +47,27 @@ fn plain_and(rows: usize, rounds: usize) -> usize {
     count
 }
 
-/// The last sum of the rising numbers and another column, which are added anew into the same places in each round.
+/// The sums of a column and a constant, which stands in a register.
+#[inline(never)]
+fn plain_map_constant(xs: &[i64], constant: i64, out: &mut [i64]) {
+    for i in 0..out.len().min(xs.len()) {
+        out[i] = xs[i].wrapping_add(constant);
+    }
+}
+
+/// The last sum of the rising numbers and another column of them or a constant, which are added anew into the same places
+/// in each round.
 #[inline(never)]
 fn plain_map_rows(rows: usize, rounds: usize, constant: bool) -> i64 {
     let first: Vec<i64> = (0..rows as i64).collect();
-    let second: Vec<i64> = if constant { vec![9; rows] } else { first.clone() };
+    let second = if constant { Vec::new() } else { first.clone() };
     let mut places = vec![0; rows];
     for _ in 0..rounds {
-        plain_map_into(black_box(&first), black_box(&second), black_box(&mut places));
+        if constant {
+            plain_map_constant(black_box(&first), black_box(9), black_box(&mut places));
+        } else {
+            plain_map_into(black_box(&first), black_box(&second), black_box(&mut places));
+        }
     }
     places.last().copied().unwrap_or(0)
 }
