@@ -214,10 +214,10 @@ fn rows_of_tuples(rows: usize, rounds: usize, constant: bool) {
     report(name, rows, times);
 }
 
-fn executions(rows: usize, rounds: usize, both: bool) {
+/// Reports whole calls of this shape beside a plain work that answers the same.
+fn executions<R: Fn(usize) -> i64>(name: &str, rows: usize, rounds: usize, shape: u8, plain: R) {
     // SAFETY: the function asks nothing of its numbers.
-    let proved = |rounds| unsafe { rowbench_execute_rows(rows, rounds, both as u8) };
-    let plain = |rounds| plain_execute_rows(rows, rounds, both);
+    let proved = |rounds| unsafe { rowbench_execute_rows(rows, rounds, shape) };
     assert_eq!(proved(16), plain(16));
     let times = least_of_rounds(
         rows,
@@ -225,22 +225,6 @@ fn executions(rows: usize, rounds: usize, both: bool) {
         |rounds| _ = black_box(proved(rounds)),
         |rounds| _ = black_box(plain(rounds)),
     );
-    let name = if both { "execute_rows, nulls in both" } else { "execute_rows, nulls in one" };
-    report(name, rows, times);
-}
-
-fn executions_beside_a_constant(rows: usize, rounds: usize, prepared: bool) {
-    // SAFETY: the function asks nothing of its numbers.
-    let proved = |rounds| unsafe { rowbench_execute_rows(rows, rounds, if prepared { 4 } else { 2 }) };
-    let plain = |rounds| plain_beside_a_constant(rows, rounds);
-    assert_eq!(proved(16), plain(16));
-    let times = least_of_rounds(
-        rows,
-        rounds,
-        |rounds| _ = black_box(proved(rounds)),
-        |rounds| _ = black_box(plain(rounds)),
-    );
-    let name = if prepared { "execute_rows, prepared" } else { "execute_rows, a constant" };
     report(name, rows, times);
 }
 
@@ -267,10 +251,12 @@ fn main() {
         conjunctions(rows, rounds);
         rows_of_tuples(rows, rounds, false);
         rows_of_tuples(rows, rounds, true);
-        executions(rows, rounds, false);
-        executions(rows, rounds, true);
-        executions_beside_a_constant(rows, rounds, false);
-        executions_beside_a_constant(rows, rounds, true);
+        let plain = |both| move |rounds| plain_execute_rows(rows, rounds, both);
+        executions("execute_rows, nulls in one", rows, rounds, 0, plain(false));
+        executions("execute_rows, nulls in both", rows, rounds, 1, plain(true));
+        let plain = |rounds| plain_beside_a_constant(rows, rounds);
+        executions("execute_rows, a constant", rows, rounds, 2, plain);
+        executions("execute_rows, prepared", rows, rounds, 4, plain);
     }
     executions_of_constants(1 << 20, 8);
 }
