@@ -1,5 +1,5 @@
 -- What calls of a closure at 0, 1 and so on gave, where the closure computes a function of the index and stays as it is.
-use Rattle.std.proofs.Common.{◌≡◌, ◌∙◌, ℕ, ◌+◌, ◌<◌, Bool, List, [], ◌∷◌, length, refl, ap, sym, ◌++◌, take, subst, arith, Result, Ok, Err, IfOk}
+use Rattle.std.proofs.Common.{◌≡◌, ◌∙◌, ℕ, zero, suc, get_or, ◌+◌, ◌<◌, Bool, List, [], ◌∷◌, length, refl, ap, sym, ◌++◌, take, subst, arith, Result, Ok, Err, IfOk}
 use Rattle.std.proofs.lemmas.Grind.{common_steps}
 use Rattle.bitlane.specs.Bits.{tabulate, Collects}
 use Rattle.bitlane.proofs.Tables.{tabulate-same}
@@ -41,3 +41,24 @@ IfOk-is P (Err e) x h p = tt
 -- the first n of two lists, where the first list has n elements
 pub take_front : {X : Type 0} (xs ys : List X) (n : ℕ) → length xs ≡ n → take n (xs ++ ys) ≡ xs
 take_front xs ys n e = grind (arith, common_steps)
+
+-- what each call gave, where a call leaves the closure as it is
+Collects-each : {F T : Type 0} (step : F → ℕ → T → F → Type 0) (R : ℕ → T → Type 0) (f : F) → ((i : ℕ) (x : T) (g : F) → step f i x g → R i x × (g ≡ f))
+    → (i : ℕ) (g last : F) (xs : List T) → g ≡ f → Collects step g i xs last → (k : ℕ) (d : T) → k < length xs → R (i + k) (get_or xs k d)
+Collects-each step R f told i g last [] e c k d l = absurd (omega arith)
+Collects-each {F} step R f told i g last (x ∷ xs) e c zero d l =
+    let called : step f i x c.0 = (let P : F → Type 0 = λ h. step h i x c.0 in subst P e c.1) in
+    subst (λ n. R n x) (omega arith) (told i x c.0 called).0
+Collects-each {F} step R f told i g last (x ∷ xs) e c (suc k) d l =
+    let called : step f i x c.0 = (let P : F → Type 0 = λ h. step h i x c.0 in subst P e c.1) in
+    let on : i + 1 + k ≡ i + suc k = omega arith in
+    subst (λ n. R n (get_or xs k d)) on (Collects-each step R f told (i + 1) c.0 last xs (told i x c.0 called).1 c.2 k d (omega arith))
+
+-- what each call gave, by the two clauses of a call that collects
+pub collected-each : {E F T A : Type 0} (step : F → ℕ → T → F → Type 0) (R : ℕ → T → Type 0) (n : ℕ) (f : F) → ((i : ℕ) (x : T) (g : F) → step f i x g → R i x × (g ≡ f))
+    → (items : A → List T) (result : Result A E) → IfOk result (λ v. length (items v) ≡ n) → IfOk result (λ v. (last : F) × Collects step f 0 (items v) last)
+    → IfOk result (λ v. (i : ℕ) (d : T) → i < n → R i (get_or (items v) i d))
+collected-each step R n f told items (Ok v) l c = λ i d h.
+    let from : 0 + i ≡ i = omega arith in
+    subst (λ k. R k (get_or (items v) i d)) from (Collects-each step R f told 0 f c.0 (items v) refl c.1 i d (omega (arith, l)))
+collected-each step R n f told items (Err e) l c = tt

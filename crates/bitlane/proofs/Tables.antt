@@ -1,6 +1,6 @@
 -- Lists made from a function of the index.
-use Rattle.std.proofs.Common.{◌≡◌, ◌∙◌, ℕ, zero, suc, ◌+◌, ◌<◌, List, [], ◌∷◌, ◌++◌, length, get_or, refl, ap, sym, arith, add-one, Bool, subst, map}
-use Rattle.bitlane.specs.Bits.{tabulate, Collects}
+use Rattle.std.proofs.Common.{◌≡◌, ◌∙◌, ℕ, zero, suc, ◌+◌, ◌<◌, List, [], ◌∷◌, ◌++◌, length, get_or, refl, ap, arith, add-one, map}
+use Rattle.bitlane.specs.Bits.{tabulate}
 
 pub length-tabulate : {X : Type 0} (f : ℕ → X) (n : ℕ) → length (tabulate f n) ≡ n
 length-tabulate f zero = refl
@@ -22,10 +22,6 @@ pub tabulate-same : {X : Type 0} (f g : ℕ → X) (n : ℕ) → ((i : ℕ) → 
 tabulate-same f g zero h = refl
 tabulate-same f g (suc n) h = ap (λ x. x ∷ tabulate (λ i. f (suc i)) n) (h 0 (omega arith))
     ∙ ap (λ t. g 0 ∷ t) (tabulate-same (λ i. f (suc i)) (λ i. g (suc i)) n (λ i k. h (suc i) (omega arith)))
-
-pub Collects-more : {F : Type 0} (R : F → ℕ → Bool → F → Type 0) (f : F) (i : ℕ) (bs : List Bool) (last : F) → Collects R f i bs last → (j : ℕ) → j ≡ i + length bs → (b : Bool) (next : F) → R last j b next → Collects R f i (bs ++ b ∷ []) next
-Collects-more {F} R f i [] last e j s b next r = (next, (let P : F → Type 0 = λ x. R x i b next in subst P (sym e) (let Q : ℕ → Type 0 = λ k. R last k b next in subst Q (omega arith) r)), refl)
-Collects-more {F} R f i (c ∷ bs) last h j s b next r = (h.0, h.1, Collects-more R h.0 (i + 1) bs last h.2 j (omega arith) b next r)
 
 -- f of each element, index by index
 pub tabulate-map : {X Y : Type 0} (f : X → Y) (xs : List X) (d : X) → tabulate (λ i. f (get_or xs i d)) (length xs) ≡ map f xs

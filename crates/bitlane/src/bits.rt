@@ -1,6 +1,7 @@
 ghost use Rattle.std.specs.Prelude.{◌≡◌, ◌≤◌, ◌<◌, length, IfOk, slice_range, map, not, count_by, replicate, true, false};
 ghost use Rattle.bitlane.specs.Bits.{bit, both, CallableFrom, Collects, true_indices};
 
+use crate::collect::collect_indices;
 use crate::set_indices::SetIndices;
 use shared::SharedSlice;
 use std::alloc::{AllocError, Global};
@@ -9,7 +10,7 @@ use std::marker::Model;
 /// A shared list of truth values, which contracts see as that list.
 ///
 /// `share` and `slice` take no memory and copy nothing. Every other buffer is made in new memory, which is taken
-/// once and at its full length; a loop then writes each value at its index.
+/// once and at its full length, and written once.
 #[derive(Drop)]
 pub struct BitBuffer {
     bits: SharedSlice<bool>,
@@ -35,9 +36,7 @@ impl BitBuffer {
         ensures len { IfOk result (λ b. length b ≡ len) }
         ensures calls { IfOk result (λ b. (last : F) × Collects F.step f 0 b last) }
     {
-        let mut bits = Vec::from_elem(alloc, false, len)?;
-        fill(bits.as_mut_slice(), f);
-        BitBuffer::from_vec(alloc, bits)
+        BitBuffer::from_vec(alloc, collect_indices(alloc, len, f)?)
     }
 
     /// The same list as that of [`BitBuffer::collect_bool_in`], by the same calls of `f`.
@@ -141,15 +140,5 @@ impl BitBuffer {
         ensures { result ≡ true_indices self.now }
     {
         SetIndices::new(self.bits.as_slice())
-    }
-}
-
-// Puts the values of `f` in the places of a slice. A write by index, unlike a push, lets the loop be a vector loop.
-fn fill<F: FnMut(usize) -> bool>(places: &mut [bool], mut f: F)
-    requires { CallableFrom F.pre F.step f 0 (length places.old) }
-    ensures { (last : F) × Collects F.step f 0 places.new last }
-{
-    for i in 0..places.len() {
-        places[i] = f(i);
     }
 }

@@ -2,6 +2,7 @@
 #![tactic(auto)]
 
 mod bits;
+mod collect;
 mod failure_evidence;
 mod indexed_source;
 mod map;
@@ -12,5 +13,5 @@ mod tests;
 pub use bits::BitBuffer;
 pub use failure_evidence::{FailureEvidence, NoFailure};
 pub use indexed_source::IndexedSource;
-pub use map::{map_checked_into, map_into};
+pub use map::{map_checked_into, map_collect, map_into};
 pub use set_indices::SetIndices;

@@ -1,8 +1,32 @@
-ghost use Rattle.std.specs.Prelude.{◌≡◌, ◌<◌, ℕ, length, slice_index_or, true};
+ghost use Rattle.std.specs.Prelude.{◌≡◌, ◌<◌, ℕ, length, slice_index_or, true, IfOk};
 ghost use Rattle.bitlane.specs.Maps.{MapsTo, Joined};
 
+use crate::collect::collect_indices;
 use crate::failure_evidence::FailureEvidence;
 use crate::indexed_source::IndexedSource;
+use std::alloc::{AllocError, Global};
+
+/// The answers of `apply` to the items, in order, in a new list. Its room is taken before the first call, and each place is
+/// written once.
+pub fn map_collect<S: IndexedSource, T: Drop, F: Fn(S::Item) -> T>(
+    source: &S,
+    apply: F,
+    alloc: Global,
+) -> Result<Vec<T>, AllocError>
+    requires callable { (i : ℕ) (x : S.Item) → i < S.count source.now → S.item_at source.now i x → F.pre apply x }
+    ensures len { IfOk result (λ v. length v.items ≡ S.count source.now) }
+    ensures items { IfOk result (λ v. (i : ℕ) (d : T) → i < S.count source.now → MapsTo (S.item_at source.now i) (F.post apply) (slice_index_or v.items i d)) }
+{
+    collect_indices(
+        alloc,
+        source.len(),
+        |index: usize| -> T
+            requires within { index < S.count source.now }
+            requires callable { (x : S.Item) → S.item_at source.now index x → F.pre apply x }
+            ensures { MapsTo (S.item_at source.entry.now index) (F.post apply) result }
+        { apply(source.get(index)) },
+    )
+}
 
 /// Writes the answer of `apply` to each item at the item's index.
 pub fn map_into<S: IndexedSource, T: Drop, F: Fn(S::Item) -> T>(source: &S, out: &mut [T], apply: F)

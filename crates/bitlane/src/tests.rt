@@ -1,6 +1,8 @@
 ghost use Rattle.std.specs.Prelude.{◌≡◌, length, slice_index_or, Some};
 
-use crate::{BitBuffer, FailureEvidence, IndexedSource, NoFailure, map_checked_into, map_into};
+use crate::{
+    BitBuffer, FailureEvidence, IndexedSource, NoFailure, map_checked_into, map_collect, map_into,
+};
 use std::test::Fail;
 
 /// The numbers of a slice.
@@ -106,6 +108,18 @@ fn map_writes_each_answer(rt: HostRuntime) {
     let mut doubled = [0u16; 4];
     map_into(&source, &mut doubled, |x| 2 * u16::from(x));
     assert_eq!(rt; doubled, [14, 400, 18, 510]);
+}
+
+#[test]
+fn map_collects_each_answer(rt: HostRuntime) -> Result<(), Fail> {
+    let source = Numbers {
+        values: &[7, 200, 9, 255],
+    };
+    let doubled = map_collect(&source, |x| 2 * u16::from(x), rt.alloc())?;
+    assert_eq!(rt; doubled.as_slice(), [14, 400, 18, 510].as_slice());
+    let none = map_collect(&Numbers { values: &[] }, |x| x, rt.alloc())?;
+    assert!(rt; none.is_empty());
+    Ok(())
 }
 
 #[test]
