@@ -3,7 +3,7 @@ ghost use Rattle.std.specs.Prelude.{◌≡◌, ◌≤◌, ◌<◌, ℕ, length, 
 ghost use Rattle.colbase.specs.Arrays.{dtype, len, row};
 ghost use Rattle.rowtypes.specs.Outputs.{StatesAnswer};
 
-use bitlane::{IndexedSource, map_into};
+use bitlane::{IndexedSource, map_collect};
 use colbase::{ArrayRef, DType, ExecutionCtx, Fault, Res};
 
 mod booleans;
@@ -12,9 +12,12 @@ mod signed;
 mod unsigned;
 
 /// A value that a row function writes, and how a column is made of such values.
-pub trait OutputElement: Copy + Default {
+pub trait OutputElement: Copy + Default + ColumnValue {
+    ghost use Rattle.std.specs.Prelude.{List};
     ghost use Rattle.colbase.specs.Cell.{Cell};
     ghost use Rattle.colbase.specs.LogicalType.{LogicalType};
+    ghost use Rattle.colbase.specs.Arrays.{column};
+    ghost use Rattle.rowtypes.specs.Outputs.{full_column};
     ghost use Rattle.colbase.specs.LogicalTypeOf.{logical_type};
 
     type Buffer: OutputBuffer<Self>;
@@ -35,6 +38,10 @@ pub trait OutputElement: Copy + Default {
     fn with_capacity(rows: usize, ctx: ExecutionCtx) -> Res<Self::Buffer>
         ensures places { IfOk result (λ b. Self.Buffer.places b ≡ replicate rows placeholder) }
         ensures errors { IfErr result (λ e. e ≡ Fault.Memory) };
+
+    ghost value_states: { (x : Self) → Self.value_cell x ≡ states x };
+
+    ghost value_has_type: { Self.value_type ≡ element_type };
 
     ghost default_is_placeholder: { (x : Self) → Self.is_default x → x ≡ placeholder };
 
@@ -123,7 +130,7 @@ impl<T: ColumnValue> OutputBuffer<T> for OutputSlots<T> {
     }
 }
 
-/// The answers of `apply` to the items, in order, as a column without nulls.
+/// The answers of `apply` to the items, in order, as a column without nulls. Each answer is written once.
 pub fn build_from<T: OutputElement, S: IndexedSource, F: Fn(S::Item) -> T>(
     source: &S,
     apply: F,
@@ -135,8 +142,6 @@ pub fn build_from<T: OutputElement, S: IndexedSource, F: Fn(S::Item) -> T>(
     ensures rows { IfOk result (λ a. (i : ℕ) → i < S.count source.now → StatesAnswer (S.item_at source.now i) (F.post apply) T.states (row a i)) }
     ensures errors { IfErr result (λ e. e ≡ Fault.Memory) }
 {
-    let rows = source.len();
-    let mut buffer = T::with_capacity(rows, ctx)?;
-    map_into(source, buffer.slots(), apply);
-    buffer.finish(rows, ctx)
+    let values = map_collect(source, apply, ctx.alloc())?;
+    T::column_of(values, ctx)
 }

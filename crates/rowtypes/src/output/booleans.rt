@@ -43,6 +43,10 @@ impl OutputElement for bool {
 
     ghost placeholder = { false };
 
+    ghost value_states = { λ x. refl };
+
+    ghost value_has_type = { refl };
+
     ghost default_is_placeholder = { λ x h. h };
 
     ghost buffer_states = { λ x. refl };

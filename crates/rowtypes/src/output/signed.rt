@@ -45,6 +45,10 @@ impl OutputElement for i8 {
 
     ghost placeholder = { pos 0 };
 
+    ghost value_states = { λ x. refl };
+
+    ghost value_has_type = { refl };
+
     ghost default_is_placeholder = { λ x h. h };
 
     ghost buffer_states = { λ x. refl };
@@ -96,6 +100,10 @@ impl OutputElement for i16 {
     ghost element_type = { type.primitive ptype.I16 NonNullable };
 
     ghost placeholder = { pos 0 };
+
+    ghost value_states = { λ x. refl };
+
+    ghost value_has_type = { refl };
 
     ghost default_is_placeholder = { λ x h. h };
 
@@ -149,6 +157,10 @@ impl OutputElement for i32 {
 
     ghost placeholder = { pos 0 };
 
+    ghost value_states = { λ x. refl };
+
+    ghost value_has_type = { refl };
+
     ghost default_is_placeholder = { λ x h. h };
 
     ghost buffer_states = { λ x. refl };
@@ -200,6 +212,10 @@ impl OutputElement for i64 {
     ghost element_type = { type.primitive ptype.I64 NonNullable };
 
     ghost placeholder = { pos 0 };
+
+    ghost value_states = { λ x. refl };
+
+    ghost value_has_type = { refl };
 
     ghost default_is_placeholder = { λ x h. h };
 

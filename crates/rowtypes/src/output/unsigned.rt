@@ -45,6 +45,10 @@ impl OutputElement for u8 {
 
     ghost placeholder = { 0 };
 
+    ghost value_states = { λ x. refl };
+
+    ghost value_has_type = { refl };
+
     ghost default_is_placeholder = { λ x h. h };
 
     ghost buffer_states = { λ x. refl };
@@ -96,6 +100,10 @@ impl OutputElement for u16 {
     ghost element_type = { type.primitive ptype.U16 NonNullable };
 
     ghost placeholder = { 0 };
+
+    ghost value_states = { λ x. refl };
+
+    ghost value_has_type = { refl };
 
     ghost default_is_placeholder = { λ x h. h };
 
@@ -149,6 +157,10 @@ impl OutputElement for u32 {
 
     ghost placeholder = { 0 };
 
+    ghost value_states = { λ x. refl };
+
+    ghost value_has_type = { refl };
+
     ghost default_is_placeholder = { λ x h. h };
 
     ghost buffer_states = { λ x. refl };
@@ -200,6 +212,10 @@ impl OutputElement for u64 {
     ghost element_type = { type.primitive ptype.U64 NonNullable };
 
     ghost placeholder = { 0 };
+
+    ghost value_states = { λ x. refl };
+
+    ghost value_has_type = { refl };
 
     ghost default_is_placeholder = { λ x h. h };
 
