@@ -4,9 +4,9 @@ ghost use Rattle.colbase.specs.Arrays.{dtype, len, row};
 ghost use Rattle.rowtypes.specs.Outputs.{StatesAnswer};
 ghost use Rattle.rowtypes.specs.Rows.{each_length};
 
-use bitlane::{IndexedSource, map_into};
+use bitlane::{IndexedSource, map_collect};
 use colbase::{ArrayRef, ExecutionCtx, Fault, Res};
-use rowtypes::{ElementTuple, IndexedElementTuple, OutputBuffer, OutputElement, RowsVisitor};
+use rowtypes::{ElementTuple, IndexedElementTuple, OutputElement, RowsVisitor};
 use std::marker::PhantomData;
 
 /// The answers of a callback that doesn't fail to all rows, as a column without nulls, and how often it was called. The
@@ -99,18 +99,17 @@ fn build_counted<Out: OutputElement, P: Drop, S: IndexedSource, A: Fn(&P, S::Ite
     ensures most { result.1 ≤ S.count source.now }
     ensures least { IfOk result.0 (λ a. S.count source.now ≤ result.1) }
 {
-    let rows = source.len();
-    let mut buffer = match Out::with_capacity(rows, ctx) {
-        Ok(buffer) => buffer,
-        Err(fault) => return (Err(fault), 0),
-    };
-    map_into(
+    let collected = map_collect(
         source,
-        buffer.slots(),
         |item: S::Item| -> Out
             requires { A.pre apply prepared item }
             ensures { A.post apply prepared.entry item result }
         { apply(prepared, item) },
+        ctx.alloc(),
     );
-    (buffer.finish(rows, ctx), rows as u128)
+    match collected {
+        Ok(values) => (Out::column_of(values, ctx), source.len() as u128),
+        // The room is taken before the first call.
+        Err(refused) => (Err(Fault::from(refused)), 0),
+    }
 }
