@@ -1,7 +1,7 @@
 // Batches that are refused.
 use super::columns::{args_of, args_of_one, column};
-use super::functions::{Labelled, Picky, Sum};
-use crate::execute_rows;
+use super::functions::{Labelled, Picky, Sum, Tagged};
+use crate::{execute_rows, row_fn_return_dtype};
 use colbase::{EmptyOptions, ExecutionArgs, ExecutionCtx, Fault, Validity};
 use std::alloc::Global;
 use std::test::Fail;
@@ -26,6 +26,27 @@ fn refused_columns(rt: HostRuntime) -> Result<(), Fail> {
         row_count: 2,
     };
     assert!(rt; told == Some(wanted));
+    Ok(())
+}
+
+#[test]
+fn one_argument_and_no_columns(rt: HostRuntime) -> Result<(), Fail> {
+    let ctx = ExecutionCtx::new(rt.alloc());
+    let args = ExecutionArgs::new(Vec::new(rt.alloc()), 3);
+    let told = execute_rows(&Tagged, &EmptyOptions, &args, ctx).err();
+    assert!(rt;
+        told == Some(Fault::Arity {
+            expected: 1,
+            actual: 0
+        })
+    );
+    let told = row_fn_return_dtype(&Tagged, &EmptyOptions, &[], ctx).err();
+    assert!(rt;
+        told == Some(Fault::Arity {
+            expected: 1,
+            actual: 0
+        })
+    );
     Ok(())
 }
 

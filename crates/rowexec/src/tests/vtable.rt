@@ -28,6 +28,17 @@ fn executes_as_the_free_function(rt: HostRuntime) -> Result<(), Fail> {
     Ok(())
 }
 
+#[test]
+fn executes_a_sum_past_the_largest_number(rt: HostRuntime) -> Result<(), Fail> {
+    let ctx = ExecutionCtx::new(rt.alloc());
+    let first = column(rt.alloc(), &[9223372036854775807], Validity::NonNullable)?;
+    let second = column(rt.alloc(), &[1], Validity::NonNullable)?;
+    let args = args_of(rt.alloc(), first, second, 1)?;
+    let sums = RowFnVTable(Sum).execute(&EmptyOptions, &args, ctx)?;
+    assert!(rt; has_rows(&sums, &[Some(-9223372036854775808)], ctx)?);
+    Ok(())
+}
+
 fn is_marked(mask: &Mask, row: usize) -> bool {
     row < mask.len() && mask.value(row)
 }
