@@ -9,7 +9,7 @@ use Rattle.rowplan.specs.Outcomes.{Outcome, done}
 use Rattle.rowexec.specs.Rows.{full_cells}
 use Rattle.rowexec.specs.Visits.{DenseColumn, DoneRow}
 
-done_row : {E X R : Type 0} (meaning : List Cell → Outcome E) (neutral : E) (cells : X → List Cell) (shows shown : List Cell) (post : X → R → Type 0) (states : R → Cell) (r : Option Cell) → shows ≡ shown → ((x : X) (y : R) → cells x ≡ shows → post x y → meaning (cells x) ≡ done (states y) neutral) → StatesAnswer (λ x. cells x ≡ shows) post states r → DoneRow meaning neutral shown r
+pub done_row : {E X R : Type 0} (meaning : List Cell → Outcome E) (neutral : E) (cells : X → List Cell) (shows shown : List Cell) (post : X → R → Type 0) (states : R → Cell) (r : Option Cell) → shows ≡ shown → ((x : X) (y : R) → cells x ≡ shows → post x y → meaning (cells x) ≡ done (states y) neutral) → StatesAnswer (λ x. cells x ≡ shows) post states r → DoneRow meaning neutral shown r
 done_row meaning neutral cells shows shown post states r e agrees s = record {
   cell = states s.value;
   is = s.is;

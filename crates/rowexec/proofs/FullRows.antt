@@ -25,7 +25,7 @@ pub picked : (b : Bool) (o : Option Cell) (x : Cell) → cond b o None ≡ Some 
 picked true o x h = h
 picked false o x h = absurd (cc)
 
-shown_at : (shown : Array → ℕ → Cell) → ShowsConstant shown → ShowsRow shown → (a : Array) (i : ℕ) (c : Cell) (o : Option Cell) → batch_value a ≡ o → row a i ≡ Some c → shown a i ≡ c
+pub shown_at : (shown : Array → ℕ → Cell) → ShowsConstant shown → ShowsRow shown → (a : Array) (i : ℕ) (c : Cell) (o : Option Cell) → batch_value a ≡ o → row a i ≡ Some c → shown a i ≡ c
 shown_at shown p q a i c None e h = q a i c e h
 shown_at shown p q a i c (Some x) e h = p a i x e ∙ constant_row a i x c (picked (nat_lt 0 (len a)) (constant_cell a) x e) h
 

@@ -38,10 +38,6 @@ reads_known reads k (a ∷ arrays) h = known_more reads k (batch_value a) (batch
 pub agrees_at : (known known' : List (Option Cell)) (cells cells' : List Cell) → known ≡ known' → cells ≡ cells' → AgreesWith known' cells' → AgreesWith known cells
 agrees_at known known' cells cells' e h a = subst (λ (k : List (Option Cell)). AgreesWith k cells) (sym e) (subst (λ (c : List Cell). AgreesWith known' c) (sym h) a)
 
--- an execution that failed before its first step
-pub failed_to_run : (n prepares : ℕ) (Gives : Array → Type 0) (Fails : Fault → Type 0) (e : Fault) → prepares ≤ 1 → Fails e → RanRows n Gives Fails (Err e) prepares 0
-failed_to_run n prepares Gives Fails e p h = record { answered = h; prepared = p; most = omega arith; least = tt }
-
 -- an execution whose loop ran
 pub ran : {E X R : Type 0} {post : X → R → Type 0} (r : Result Array Fault) (n steps : ℕ) (meaning : List Cell → Outcome E) (neutral : E) (reads : ℕ → Cell → Type 0) (shown : ℕ → Array → ℕ → Cell) (storage : Option LogicalType) (t : LogicalType) (columns : List Array) (cells : X → List Cell) (shows : ℕ → List Cell) (states : R → Cell)
     → storage ≡ Some t → ((i : ℕ) → i < n → shows i ≡ shown_from shown 0 columns i)

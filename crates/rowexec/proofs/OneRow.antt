@@ -21,7 +21,7 @@ use Rattle.rowexec.proofs.Batches.{both_are}
 use Rattle.rowexec.proofs.FullRows.{picked}
 use Rattle.rowexec.proofs.Results.{err_then, match_result, ok_then, three_then}
 
-both_parts : (a b : Bool) → (a && b) ≡ true → (a ≡ true) × (b ≡ true)
+pub both_parts : (a b : Bool) → (a && b) ≡ true → (a ≡ true) × (b ≡ true)
 both_parts true b h = (refl, h)
 both_parts false b h = absurd (cc)
 
@@ -36,7 +36,7 @@ unmasked_row true o x h e = e
 unmasked_row false o x h e = absurd (cc)
 
 -- each row of a constant without nulls is its value
-value_row : (a : Array) (i : ℕ) (x : Cell) → is_no_nulls (validity_kind (own_validity a)) ≡ true → constant_cell a ≡ Some x → row a i ≡ Some x
+pub value_row : (a : Array) (i : ℕ) (x : Cell) → is_no_nulls (validity_kind (own_validity a)) ≡ true → constant_cell a ≡ Some x → row a i ≡ Some x
 value_row (constant s n) i x k e = e
 value_row (masked (constant s n) w) i x k e = unmasked_row (valid_at w i) (option_map cell_of s.value) x (no_null_at w i k) e
 value_row (extension t (constant s n)) i x k e = e
@@ -48,11 +48,11 @@ pub record EachRow (arrays : List Array) : Type 0 where
   pub each : (i : ℕ) → full_cells arrays i ≡ Some cells
 
 -- the value of an array that is one value
-record Value (o : Option Cell) : Type 0 where
+pub record Value (o : Option Cell) : Type 0 where
   pub value : Cell
   pub is : o ≡ Some value
 
-value_of : (o : Option Cell) → is_some o ≡ true → Value o
+pub value_of : (o : Option Cell) → is_some o ≡ true → Value o
 value_of (Some x) h = record { value = x; is = refl }
 value_of None h = absurd (cc)
 

@@ -1,5 +1,6 @@
 -- What follows of answers.
-use Rattle.std.specs.Prelude.{Result, Ok, Err, IfOk, IfErr, MatchResult}
+use Rattle.std.proofs.Common.{◌≡◌, subst}
+use Rattle.std.specs.Prelude.{Option, None, Some, Result, Ok, Err, IfSome, IfOk, IfErr, MatchResult}
 
 pub match_result : {A E : Type 0} (r : Result A E) (P : A → Type 0) (Q : E → Type 0) → IfOk r P → IfErr r Q → MatchResult r P Q
 match_result (Ok x) P Q h k = h
@@ -16,3 +17,8 @@ err_then (Err e) P Q p f = f e p
 pub ok_then : {A E : Type 0} (P Q : A → Type 0) (r : Result A E) → ((x : A) → P x → Q x) → IfOk r P → IfOk r Q
 ok_then P Q (Ok x) f h = f x h
 ok_then P Q (Err e) f h = tt
+
+-- what holds of the value of an option that has this one
+pub of_some : {X : Type 0} (P : X → Type 0) (o : Option X) (x : X) → o ≡ Some x → IfSome o P → P x
+of_some P None x e h = absurd (cc)
+of_some P (Some y) x e h = let same : y ≡ x = cc in subst P same h

@@ -21,13 +21,13 @@ pub as_many : (types : List DType) → length (logical_types types) ≡ length t
 as_many [] = refl
 as_many (t ∷ types) = ap suc (as_many types)
 
-pub strict_row : {E : Type 0} (finish : E → Option ℕ) (meaning : List Cell → Outcome E) (neutral : E) (cells : Option (List Cell)) (shown : List Cell) (b : Bool) (r w : Option Cell) → finish neutral ≡ None → b ≡ is_some cells → r ≡ null_unless b w → DoneRow meaning neutral shown w → ((cs : List Cell) → cells ≡ Some cs → shown ≡ cs) → StrictRow finish meaning cells r
-strict_row finish meaning neutral None shown b r w fin hb hr d f = hr ∙ ap (λ t. null_unless t w) hb
-strict_row finish meaning neutral (Some cs) shown b r w fin hb hr d f = record {
-  cell = d.cell;
+pub strict_row : {E : Type 0} (finish : E → Option ℕ) (meaning : List Cell → Outcome E) (neutral : E) (cells : Option (List Cell)) (b : Bool) (r w : Option Cell) → finish neutral ≡ None → b ≡ is_some cells → r ≡ null_unless b w → ((cs : List Cell) → cells ≡ Some cs → DoneRow meaning neutral cs w) → StrictRow finish meaning cells r
+strict_row finish meaning neutral None b r w fin hb hr d = hr ∙ ap (λ t. null_unless t w) hb
+strict_row finish meaning neutral (Some cs) b r w fin hb hr d = record {
+  cell = (d cs refl).cell;
   evidence = neutral;
-  is = hr ∙ ap (λ t. null_unless t w) hb ∙ d.is;
-  outcome_is = ap meaning (sym (f cs refl)) ∙ d.outcome;
+  is = hr ∙ ap (λ t. null_unless t w) hb ∙ (d cs refl).is;
+  outcome_is = (d cs refl).outcome;
   accepted = fin;
 }
 

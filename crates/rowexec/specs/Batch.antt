@@ -5,9 +5,12 @@ use Rattle.colbase.specs.Cell.{Cell}
 use Rattle.colbase.specs.LogicalType.{LogicalType}
 use Rattle.colbase.specs.declared.fault.Fault.{Fault}
 use Rattle.colbase.specs.declared.fault.Fault.TheVariants.{Arity, Dtype, Memory, OutputType, Refused}
-use Rattle.rowtypes.specs.Rows.{DecodeFails, first_refused}
+use Rattle.rowtypes.specs.Rows.{first_refused}
 use Rattle.rowplan.specs.Outputs.{InOrder, Output, output_type, stated_type}
-use Rattle.rowexec.specs.Rows.{some_all_null, types_of, wrong_length}
+use Rattle.rowplan.specs.declared.batch_plan.RowPolicy.{RowPolicy}
+use Rattle.rowexec.specs.Counts.{settled}
+use Rattle.rowexec.specs.Reads.{ReadFails}
+use Rattle.rowexec.specs.Rows.{types_of, wrong_length}
 
 -- the type is the output type, made nullable where some argument's type is
 pub record StatedAs (output : Output) (types : List LogicalType) (t : LogicalType) : Type 0 where
@@ -34,7 +37,7 @@ Misfits arity n columns e = ((length columns ≢ arity) × (e ≡ Arity arity (l
 abbrev pub Unplanned : Bool → (ℕ → LogicalType → Bool) → Output → List LogicalType → Fault → Type 0
 Unplanned accepts fits output types e = ((accepts ≡ false) × (e ≡ Refused)) ⊎ ((accepts ≡ true) × (((k : ℕ) × (first_refused fits 0 types ≡ Some k) × (e ≡ Dtype k)) ⊎ ((first_refused fits 0 types ≡ None) × (e ≡ OutputType) × (InOrder output.storage output.label → ⊥))))
 
--- why a call is refused, in order; a cell that isn't read is told only where no argument is null at each row
-abbrev pub Cause : ℕ → ℕ → List Array → Bool → (ℕ → LogicalType → Bool) → Output → (ℕ → Cell → Type 0) → Fault → Type 0
-Cause arity n columns accepts fits output reads e =
-    Misfits arity n columns e ⊎ (Fits arity n columns × ((e ≡ Memory) ⊎ (Unplanned accepts fits output (types_of columns) e ⊎ (Planned accepts fits output (types_of columns) × (some_all_null columns ≡ false) × DecodeFails reads 0 columns e))))
+-- why a call is refused, in order; a cell that isn't read is told only where the call isn't settled before
+abbrev pub Cause : ℕ → ℕ → List Array → Bool → (ℕ → LogicalType → Bool) → Output → RowPolicy → (ℕ → Cell → Type 0) → Fault → Type 0
+Cause arity n columns accepts fits output policy reads e =
+    Misfits arity n columns e ⊎ (Fits arity n columns × ((e ≡ Memory) ⊎ (Unplanned accepts fits output (types_of columns) e ⊎ (Planned accepts fits output (types_of columns) × (settled policy n columns ≡ false) × ReadFails reads 0 columns e))))

@@ -2,6 +2,8 @@ pub mod Batch
 pub mod Calls
 pub mod Counts
 pub mod Masks
+pub mod Reads
 pub mod Rows
 pub mod Samples
+pub mod Selections
 pub mod Visits

@@ -1,4 +1,5 @@
 //! A row function over whole columns.
+mod answer;
 mod arguments;
 mod call;
 mod counted;
@@ -7,6 +8,8 @@ mod finish;
 mod full_rows;
 mod one_row;
 mod plan;
+mod selection;
+mod valid;
 
 pub(crate) use call::full_mask;
 pub use call::{execute_rows, row_fn_return_dtype};

@@ -1,6 +1,10 @@
 //! The visitors that run a row function.
 mod execute;
+mod filtered_rows;
+mod valid_rows;
 mod visited;
 
 pub(crate) use execute::ExecuteRows;
+pub(crate) use filtered_rows::ExecuteFilteredRows;
+pub(crate) use valid_rows::ExecuteValidRows;
 pub(crate) use visited::Visited;

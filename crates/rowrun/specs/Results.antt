@@ -8,6 +8,7 @@ use Rattle.colbase.specs.declared.fault.Fault.{Fault}
 use Rattle.colbase.specs.declared.fault.Fault.TheVariants.{Memory}
 use Rattle.rowplan.specs.Outcomes.{Outcome}
 use Rattle.rowplan.specs.Outputs.{Output}
+use Rattle.rowplan.specs.declared.batch_plan.RowPolicy.TheVariants.{Dense}
 use Rattle.rowexec.specs.Batch.{Cause, Fits, Planned, StatedAs}
 use Rattle.rowexec.specs.Rows.{StrictRow, full_cells, types_of}
 use Rattle.rowrun.specs.Batch.{Batch}
@@ -31,7 +32,7 @@ abbrev pub IsResult : Batch → Column → Type 0
 IsResult b c = IsResultOf b.call b.row_count b.columns c
 
 abbrev pub CauseOf : Call → ℕ → List Array → Fault → Type 0
-CauseOf WrappingAdd n columns f = Cause 2 n columns true accepts_i64 i64_output reads_i64 f
+CauseOf WrappingAdd n columns f = Cause 2 n columns true accepts_i64 i64_output Dense reads_i64 f
 
 -- the called function refuses the batch with this fault; want of memory is told by a status of its own
 pub record HasFault (b : Batch) (f : Fault) : Type 0 where

@@ -7,5 +7,6 @@ pub mod Results
 pub mod Numbers
 pub mod Columns
 pub mod Lengths
+pub mod ReadNumbers
 pub mod Sides
 pub mod SidesFail

@@ -1,4 +1,4 @@
--- What the elements of truth values and of integers show.
+-- What the elements of truth values, of integers and of scales show.
 use Rattle.std.specs.Prelude.{ℕ, pos, false}
 use Rattle.colbase.specs.Cell.{Cell, truth, number}
 use Rattle.colbase.specs.Arrays.{Array}
@@ -11,3 +11,7 @@ shown_truth = shown_by (stored_or (truth false))
 -- under nulls the stored number, and zero where none is stored
 abbrev pub shown_number : Array → ℕ → Cell
 shown_number = shown_by (stored_or (number (pos 0)))
+
+-- under nulls zero, whatever is stored there
+abbrev pub shown_scale : Array → ℕ → Cell
+shown_scale = shown_by (λ a i. number (pos 0))

@@ -2,6 +2,7 @@ pub mod Shown
 pub mod Unmasked
 pub mod Reading
 pub mod Elements
+pub mod Scales
 pub mod Outputs
 pub mod Places
 pub mod Filled

@@ -1,5 +1,5 @@
 -- Which cells an element reads, and why a column can't be decoded.
-use Rattle.std.specs.Prelude.{◌≡◌, Bool, IsTrue, true, false, ⊤, ◌⊎◌, Some, Result, Ok, Err, if◌then◌else◌}
+use Rattle.std.specs.Prelude.{◌≡◌, ◌≤◌, Bool, IsTrue, true, false, ⊤, ◌⊎◌, Some, Result, Ok, Err, if◌then◌else◌, pos}
 use Rattle.colbase.specs.declared.dtype.PType.{PType}
 use Rattle.colbase.specs.declared.dtype.PType.TheVariants as p
 use Rattle.colbase.specs.declared.fault.Fault.{Fault}
@@ -35,6 +35,11 @@ IsTruth _ = ⊥
 abbrev pub IsNumberOf : PType → Cell → Type 0
 IsNumberOf p (number z) = IsTrue (in_range p z)
 IsNumberOf p _ = ⊥
+
+-- a whole number from 0 to 18
+abbrev pub IsScale : Cell → Type 0
+IsScale (number (pos n)) = n ≤ 18
+IsScale _ = ⊥
 
 abbrev pub same_ptype : PType → PType → Bool
 same_ptype p.I8 p.I8 = true

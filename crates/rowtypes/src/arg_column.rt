@@ -1,10 +1,10 @@
-ghost use Rattle.std.specs.Prelude.{◌≡◌, ◌<◌, ◌⊎◌, ℕ, Bool, true, IfOk, IfErr, is_some, Option};
+ghost use Rattle.std.specs.Prelude.{◌≡◌, ◌<◌, ◌⊎◌, ℕ, Bool, true, IfOk, IfErr, Option};
 ghost use Rattle.colbase.specs.Arrays.{dtype, len, MustRead};
 ghost use Rattle.rowtypes.specs.Shown.{batch_value};
 ghost use Rattle.rowtypes.specs.Rows.{ArgumentFails, IsWithin, ReadsAll, is_length, length_unless, placed};
 ghost use Rattle.rowtypes.specs.Arguments.{arg_length, arg_shows, arg_value, known_cell};
 
-use crate::batch::batch_const;
+use crate::batch::has_batch_value;
 use crate::element::InputElement;
 use crate::source_visitor::SourceVisitor;
 use crate::sources::{ColumnRows, Repeated, Values};
@@ -132,18 +132,5 @@ pub(crate) fn at_place(fault: Fault, place: usize) -> Fault
             index: index.saturating_add(place),
         },
         other => other,
-    }
-}
-
-// Whether the array becomes one value: a batch constant that is not null, of a column that is not empty.
-fn has_batch_value(array: &ArrayRef) -> bool
-    ensures { result ≡ is_some (batch_value array.now) }
-{
-    if array.len() == 0 {
-        return false;
-    }
-    match batch_const(array) {
-        Some(constant) => constant.is_valid(0),
-        None => false,
     }
 }

@@ -1,5 +1,6 @@
-ghost use Rattle.std.specs.Prelude.{◌≡◌};
+ghost use Rattle.std.specs.Prelude.{◌≡◌, is_some};
 ghost use Rattle.std.specs.Option.{option_copied};
+ghost use Rattle.rowtypes.specs.Shown.{batch_value};
 ghost use Rattle.rowtypes.specs.Unmasked.{batch_constant, unmasked};
 
 use colbase::ArrayRef;
@@ -17,6 +18,19 @@ pub fn batch_const(array: &ArrayRef) -> Option<&ArrayRef>
     }
     let storage = array.ext_storage()?;
     storage.as_constant().map(|_| array)
+}
+
+/// Whether the array becomes one value: a batch constant that is not null, of a column that is not empty.
+pub(crate) fn has_batch_value(array: &ArrayRef) -> bool
+    ensures { result ≡ is_some (batch_value array.now) }
+{
+    if array.len() == 0 {
+        return false;
+    }
+    match batch_const(array) {
+        Some(constant) => constant.is_valid(0),
+        None => false,
+    }
 }
 
 /// The array below each mask.

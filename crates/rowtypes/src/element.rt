@@ -3,9 +3,12 @@ ghost use Rattle.std.specs.Prelude.{◌≡◌, ◌<◌, ℕ, Bool, true, false, 
 use colbase::{ArrayRef, DType, ExecutionCtx, Res};
 
 mod boolean;
+mod decimal_scale;
 mod integer;
 mod signed;
 mod unsigned;
+
+pub use decimal_scale::DecimalScale;
 
 /// How an argument of one element type is read: which types it accepts, what it decodes a column to, and what it
 /// gives at each row.

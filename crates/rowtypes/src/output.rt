@@ -13,11 +13,8 @@ mod unsigned;
 
 /// A value that a row function writes, and how a column is made of such values.
 pub trait OutputElement: Copy + Default + ColumnValue {
-    ghost use Rattle.std.specs.Prelude.{List};
     ghost use Rattle.colbase.specs.Cell.{Cell};
     ghost use Rattle.colbase.specs.LogicalType.{LogicalType};
-    ghost use Rattle.colbase.specs.Arrays.{column};
-    ghost use Rattle.rowtypes.specs.Outputs.{full_column};
     ghost use Rattle.colbase.specs.LogicalTypeOf.{logical_type};
 
     type Buffer: OutputBuffer<Self>;

@@ -1,21 +1,24 @@
-ghost use Rattle.std.specs.Prelude.{◌≡◌, ◌≢◌, ◌<◌, ◌≤◌, ◌⊎◌, ℕ, length, true, false, None, Err, IfOk, IfErr};
+ghost use Rattle.std.specs.Prelude.{◌≡◌, ◌≢◌, ◌<◌, ◌≤◌, ◌⊎◌, ℕ, length, true, false, None, Err, IfOk, IfErr, IfSome, is_some};
 ghost use Rattle.colbase.specs.Arrays.{dtype, len, row};
 ghost use Rattle.colbase.specs.declared.fault.Fault.TheVariants.{Arity, Memory};
-ghost use Rattle.rowtypes.specs.Rows.{DecodeFails, logical_types};
-ghost use Rattle.rowplan.specs.Outputs.{any_nullable, stated_type};
-ghost use Rattle.rowplan.specs.Plans.{PlanOf, plan_of};
+ghost use Rattle.rowtypes.specs.Rows.{logical_types};
+ghost use Rattle.rowplan.specs.Plans.{PlanOf};
 ghost use Rattle.rowexec.specs.Batch.{Cause, Fits, Planned, StatedAs};
-ghost use Rattle.rowexec.specs.Counts.{steps_asked};
+ghost use Rattle.colbase.specs.Valid.{Covers, valid_at};
+ghost use Rattle.rowexec.specs.Counts.{settled, steps_asked};
+ghost use Rattle.rowexec.specs.Reads.{ReadFails};
 ghost use Rattle.rowexec.specs.Rows.{EachHasRows, StrictRow, full_cells, some_all_null, types_of};
-ghost use Rattle.rowexec.specs.Visits.{DenseColumn, RanRows};
+ghost use Rattle.rowexec.specs.Visits.{RanRows, ValidColumn};
 
-use super::dense::{execute_dense, finish_dense};
-use super::finish::null_column;
-use super::full_rows::is_some_all_null;
-use super::one_row::{execute_one_row, is_one_row};
+use super::answer::{finish_values, null_answer};
+use super::dense::execute_dense;
+use super::full_rows::{full_rows, is_some_all_null};
+use super::one_row::execute_one_row;
 use super::plan::plan_call;
+use super::selection::{Selection, select_rows};
+use super::valid::execute_valid;
 use crate::visitor::Visited;
-use colbase::{ArrayRef, DType, ExecutionArgs, ExecutionCtx, Res};
+use colbase::{ArrayRef, DType, ExecutionArgs, ExecutionCtx, Res, Validity};
 use rowplan::{BatchPlan, RowFn};
 
 /// An answer, and how often the function's callbacks were called for it.
@@ -43,9 +46,9 @@ pub fn execute_rows_counted<F: RowFn>(
     ensures dtype { IfOk result.answer (λ a. StatedAs (F.output options.now (types_of args.now.columns)) (types_of args.now.columns) (dtype a)) }
     ensures len { IfOk result.answer (λ a. len a ≡ args.now.row_count) }
     ensures rows { IfOk result.answer (λ a. (i : ℕ) → i < args.now.row_count → StrictRow F.finish (F.meaning options.now (types_of args.now.columns)) (full_cells args.now.columns i) (row a i)) }
-    ensures errors { IfErr result.answer (Cause F.arity args.now.row_count args.now.columns (F.accepts options.now (types_of args.now.columns)) (F.fits options.now (types_of args.now.columns)) (F.output options.now (types_of args.now.columns)) (F.reads options.now (types_of args.now.columns))) }
-    ensures most { result.steps ≤ steps_asked args.now.row_count args.now.columns }
-    ensures least { IfOk result.answer (λ _. steps_asked args.now.row_count args.now.columns ≤ result.steps) }
+    ensures errors { IfErr result.answer (Cause F.arity args.now.row_count args.now.columns (F.accepts options.now (types_of args.now.columns)) (F.fits options.now (types_of args.now.columns)) (F.output options.now (types_of args.now.columns)) (F.policy options.now (types_of args.now.columns)) (F.reads options.now (types_of args.now.columns))) }
+    ensures most { result.steps ≤ steps_asked (F.policy options.now (types_of args.now.columns)) args.now.row_count args.now.columns }
+    ensures least { IfOk result.answer (λ _. steps_asked (F.policy options.now (types_of args.now.columns)) args.now.row_count args.now.columns ≤ result.steps) }
     ensures prepares { result.prepares ≤ 1 }
     ensures none { some_all_null args.now.columns ≡ true → result.prepares ≡ 0 }
     ensures refused { (Fits F.arity args.now.row_count args.now.columns → Planned (F.accepts options.now (types_of args.now.columns)) (F.fits options.now (types_of args.now.columns)) (F.output options.now (types_of args.now.columns)) (types_of args.now.columns) → ⊥) → (result.prepares ≡ 0) × (result.steps ≡ 0) }
@@ -92,29 +95,29 @@ fn execute_planned<F: RowFn>(
     ensures dtype { IfOk result.answer (λ a. StatedAs (F.output options.now (types_of args.now.columns)) (types_of args.now.columns) (dtype a)) }
     ensures len { IfOk result.answer (λ a. len a ≡ args.now.row_count) }
     ensures rows { IfOk result.answer (λ a. (i : ℕ) → i < args.now.row_count → StrictRow F.finish (F.meaning options.now (types_of args.now.columns)) (full_cells args.now.columns i) (row a i)) }
-    ensures errors { IfErr result.answer (λ e. (e ≡ Memory) ⊎ ((some_all_null args.now.columns ≡ false) × DecodeFails (F.reads options.now (types_of args.now.columns)) 0 args.now.columns e)) }
-    ensures most { result.steps ≤ steps_asked args.now.row_count args.now.columns }
-    ensures least { IfOk result.answer (λ _. steps_asked args.now.row_count args.now.columns ≤ result.steps) }
+    ensures errors { IfErr result.answer (λ e. (e ≡ Memory) ⊎ ((settled (F.policy options.now (types_of args.now.columns)) args.now.row_count args.now.columns ≡ false) × ReadFails (F.reads options.now (types_of args.now.columns)) 0 args.now.columns e)) }
+    ensures most { result.steps ≤ steps_asked (F.policy options.now (types_of args.now.columns)) args.now.row_count args.now.columns }
+    ensures least { IfOk result.answer (λ _. steps_asked (F.policy options.now (types_of args.now.columns)) args.now.row_count args.now.columns ≤ result.steps) }
     ensures prepares { result.prepares ≤ 1 }
     ensures none { some_all_null args.now.columns ≡ true → result.prepares ≡ 0 }
 {
     if is_some_all_null(args.columns(), args.row_count()) {
         return without_calls(null_answer(types, plan, args.row_count(), ctx));
     }
+    let full = match full_rows(args.columns(), args.row_count(), ctx) {
+        Ok(full) => full,
+        Err(fault) => return without_calls(Err(fault)),
+    };
+    let Some(visited) = execute_selected(function, options, args, types, plan, &full, ctx) else {
+        return without_calls(null_answer(types, plan, args.row_count(), ctx));
+    };
     let Visited {
         answer,
         prepares,
         steps,
-    } = execute_asked(
-        function,
-        options,
-        args.columns(),
-        types,
-        args.row_count(),
-        ctx,
-    );
+    } = visited;
     let answer = match answer {
-        Ok(values) => finish_dense::<F>(options, args, types, plan, values, ctx),
+        Ok(values) => finish_values::<F>(options, args, types, plan, values, &full, ctx),
         Err(fault) => Err(fault),
     };
     Counted {
@@ -124,41 +127,36 @@ fn execute_planned<F: RowFn>(
     }
 }
 
-// The answer that is null at each row.
-fn null_answer(
-    types: &[DType],
-    plan: &BatchPlan,
-    row_count: usize,
-    ctx: ExecutionCtx,
-) -> Res<ArrayRef>
-    requires { any_nullable (logical_types types.now) ≡ true }
-    ensures dtype { IfOk result (λ a. dtype a ≡ stated_type (plan_of plan.now).output (logical_types types.now)) }
-    ensures len { IfOk result (λ a. len a ≡ row_count) }
-    ensures rows { IfOk result (λ a. (i : ℕ) → row a i ≡ None) }
-    ensures errors { IfErr result (λ e. e ≡ Memory) }
-{
-    let result_dtype = plan.result_dtype(types, ctx)?;
-    null_column(result_dtype, row_count, ctx)
-}
-
-// The values of all rows, by one row where it stands for all.
-fn execute_asked<F: RowFn>(
+// The values of the rows that run. None where some argument is null at each row.
+fn execute_selected<F: RowFn>(
     function: &F,
     options: &F::Options,
-    columns: &[ArrayRef],
+    args: &ExecutionArgs,
     types: &[DType],
-    row_count: usize,
+    plan: &BatchPlan,
+    full: &Validity,
     ctx: ExecutionCtx,
-) -> Visited<ArrayRef>
-    requires types { logical_types types.now ≡ types_of columns.now }
-    requires arity { length columns.now ≡ F.arity }
-    requires rows { EachHasRows row_count columns.now }
-    requires planned { Planned (F.accepts options.now (types_of columns.now)) (F.fits options.now (types_of columns.now)) (F.output options.now (types_of columns.now)) (types_of columns.now) }
-    requires some { some_all_null columns.now ≡ false }
-    ensures { RanRows (steps_asked row_count columns.now) (DenseColumn (F.meaning options.now (types_of columns.now)) F.Evidence.neutral (F.shown options.now (types_of columns.now)) (F.output options.now (types_of columns.now)).storage columns.now row_count) (DecodeFails (F.reads options.now (types_of columns.now)) 0 columns.now) result.answer result.prepares result.steps }
+) -> Option<Visited<ArrayRef>>
+    requires types { logical_types types.now ≡ types_of args.now.columns }
+    requires arity { length args.now.columns ≡ F.arity }
+    requires rows { EachHasRows args.now.row_count args.now.columns }
+    requires planned { Planned (F.accepts options.now (types_of args.now.columns)) (F.fits options.now (types_of args.now.columns)) (F.output options.now (types_of args.now.columns)) (types_of args.now.columns) }
+    requires plan { PlanOf (F.output options.now (types_of args.now.columns)).storage (F.output options.now (types_of args.now.columns)).label (F.policy options.now (types_of args.now.columns)) plan.now }
+    requires some { some_all_null args.now.columns ≡ false }
+    requires tells { (i : ℕ) → i < args.now.row_count → valid_at full.now i ≡ is_some (full_cells args.now.columns i) }
+    requires covers { Covers full.now args.now.row_count }
+    ensures ran { IfSome result (λ v. RanRows (steps_asked (F.policy options.now (types_of args.now.columns)) args.now.row_count args.now.columns) (ValidColumn (F.meaning options.now (types_of args.now.columns)) F.Evidence.neutral (F.output options.now (types_of args.now.columns)).storage args.now.columns args.now.row_count) (ReadFails (F.reads options.now (types_of args.now.columns)) 0 args.now.columns) v.answer v.prepares v.steps) }
+    ensures unsettled { IfSome result (λ v. settled (F.policy options.now (types_of args.now.columns)) args.now.row_count args.now.columns ≡ false) }
+    ensures nothing { result ≡ None → (0 < args.now.row_count) × (steps_asked (F.policy options.now (types_of args.now.columns)) args.now.row_count args.now.columns ≡ 0) × ((i : ℕ) → i < args.now.row_count → full_cells args.now.columns i ≡ None) }
 {
-    if is_one_row(columns, row_count) {
-        return execute_one_row(function, options, columns, types, row_count, ctx);
+    let columns = args.columns();
+    let row_count = args.row_count();
+    match select_rows(plan.policy(), columns, row_count, full) {
+        Selection::One => Some(execute_one_row(function, options, columns, types, row_count, ctx)),
+        Selection::All => Some(execute_dense(function, options, columns, types, row_count, ctx)),
+        Selection::Valid(bits) => Some(execute_valid(
+            function, options, columns, types, &bits, ctx,
+        )),
+        Selection::Nothing => None,
     }
-    execute_dense(function, options, columns, types, row_count, ctx)
 }

@@ -56,6 +56,7 @@ pub(super) fn execute_one_row<F: RowFn>(
     requires types { logical_types types.now ≡ types_of columns.now }
     requires arity { length columns.now ≡ F.arity }
     requires planned { Planned (F.accepts options.now (types_of columns.now)) (F.fits options.now (types_of columns.now)) (F.output options.now (types_of columns.now)) (types_of columns.now) }
+    requires rows { EachHasRows row_count columns.now }
     requires one { one_row row_count columns.now ≡ true }
     ensures { RanRows 1 (DenseColumn (F.meaning options.now (types_of columns.now)) F.Evidence.neutral (F.shown options.now (types_of columns.now)) (F.output options.now (types_of columns.now)).storage columns.now row_count) (DecodeFails (F.reads options.now (types_of columns.now)) 0 columns.now) result.answer result.prepares result.steps }
 {

@@ -31,7 +31,7 @@ pub(super) fn plan_call<F: RowFn>(
     ensures fits { IfOk result (λ _. Fits F.arity args.now.row_count args.now.columns) }
     ensures planned { IfOk result (λ _. Planned (F.accepts options.now (types_of args.now.columns)) (F.fits options.now (types_of args.now.columns)) (F.output options.now (types_of args.now.columns)) (types_of args.now.columns)) }
     ensures plan { IfOk result (λ p. PlanOf (F.output options.now (types_of args.now.columns)).storage (F.output options.now (types_of args.now.columns)).label (F.policy options.now (types_of args.now.columns)) p.plan) }
-    ensures errors { IfErr result (Cause F.arity args.now.row_count args.now.columns (F.accepts options.now (types_of args.now.columns)) (F.fits options.now (types_of args.now.columns)) (F.output options.now (types_of args.now.columns)) (F.reads options.now (types_of args.now.columns))) }
+    ensures errors { IfErr result (Cause F.arity args.now.row_count args.now.columns (F.accepts options.now (types_of args.now.columns)) (F.fits options.now (types_of args.now.columns)) (F.output options.now (types_of args.now.columns)) (F.policy options.now (types_of args.now.columns)) (F.reads options.now (types_of args.now.columns))) }
 {
     check_arguments::<F>(args)?;
     let types = argument_types(args.columns(), ctx.alloc())?;

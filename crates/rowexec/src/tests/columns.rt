@@ -13,6 +13,13 @@ pub fn column(alloc: Global, values: &[i64], validity: Validity) -> Result<Array
     Ok(PrimitiveArray::try_new(values, validity, ctx)?)
 }
 
+/// A column of numbers of 8 bits.
+pub fn bytes(alloc: Global, values: &[u8], validity: Validity) -> Result<ArrayRef, Fail> {
+    let ctx = ExecutionCtx::new(alloc);
+    let values = Buffer::from_vec(Vec::from_slice(alloc, values)?, ctx)?;
+    Ok(PrimitiveArray::try_new(values, validity, ctx)?)
+}
+
 pub fn args_of_one(alloc: Global, only: ArrayRef, rows: usize) -> Result<ExecutionArgs, Fail> {
     let mut columns = Vec::new(alloc);
     columns.push(only)?;

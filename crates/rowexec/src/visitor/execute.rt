@@ -34,7 +34,7 @@ impl<'a, F: RowSpec> RowVisitor<F> for ExecuteRows<'a, F> {
 
     ghost label = { λ s. option_map logical_type s.label };
 
-    ghost ready = { λ s. IsReady (F.fits s.options.now (logical_types s.types.now)) (logical_types s.types.now) s.columns.now s.row_count };
+    ghost ready = { λ s. IsReady (F.policy s.options.now (logical_types s.types.now)) (F.fits s.options.now (logical_types s.types.now)) (logical_types s.types.now) s.columns.now s.row_count };
 
     ghost gives = { λ s r. MatchResult r
         (λ v. RanRows s.row_count
@@ -63,23 +63,11 @@ impl<'a, F: RowSpec> RowVisitor<F> for ExecuteRows<'a, F> {
     >(self, prepare: R, apply: A) -> Res<Visited<ArrayRef>> {
         let decoded = match Args::decode(self.columns, self.ctx) {
             Ok(decoded) => decoded,
-            Err(fault) => {
-                return Ok(Visited {
-                    answer: Err(fault),
-                    prepares: 0,
-                    steps: 0,
-                });
-            }
+            Err(fault) => return Ok(Visited::before_the_rows(Err(fault), 0)),
         };
         let prepared = match prepare(known_values::<Args>(&decoded)) {
             Ok(prepared) => prepared,
-            Err(AllocError) => {
-                return Ok(Visited {
-                    answer: Err(Fault::Memory),
-                    prepares: 1,
-                    steps: 0,
-                });
-            }
+            Err(AllocError) => return Ok(Visited::before_the_rows(Err(Fault::Memory), 1)),
         };
         let (answer, steps) = execute_owned_infallible::<Args, Out, P, A>(
             &decoded,
@@ -96,8 +84,8 @@ impl<'a, F: RowSpec> RowVisitor<F> for ExecuteRows<'a, F> {
     }
 }
 
-// The arguments that are one value, each of which is read.
-fn known_values<Args: ElementTuple>(decoded: &Args::Columns) -> Args::ConstElems
+/// The arguments that are one value, each of which is read.
+pub(super) fn known_values<Args: ElementTuple>(decoded: &Args::Columns) -> Args::ConstElems
     requires { ReadsKnown Args.reads 0 (Args.known_of decoded.now) }
     ensures known { Args.known result ≡ Args.known_of decoded.now }
     ensures read { ReadsKnown Args.reads 0 (Args.known result) }

@@ -64,8 +64,6 @@ pub trait RowVisitor<F: RowSpec>: Sized + Drop {
         requires elements { SelectsElements Args.ARITY F.arity Args.accepts (F.fits (options self) (types self)) Args.reads (F.reads (options self) (types self)) Args.shown (F.shown (options self) (types self)) (types self) }
         requires output { SelectsOutput Out.element_type (Out.states Out.placeholder) (F.output (options self) (types self)) (label self) (F.placeholder (options self) (types self)) (F.room (options self) (types self)) }
         requires policy { F.policy (options self) (types self) ≡ owned_policy Args.DENSE_SAFE Args.DECODE_INFALLIBLE }
-        requires dense_safe { Args.DENSE_SAFE ≡ true }
-        requires decode_infallible { Args.DECODE_INFALLIBLE ≡ true }
         requires undeferred { F.deferred (options self) (types self) ≡ false }
         requires prepares { (k : Args.ConstElems) → ReadsKnown Args.reads 0 (Args.known k) → R.pre prepare k }
         // The callback is lent the value that was prepared.
@@ -82,8 +80,6 @@ pub trait RowVisitor<F: RowSpec>: Sized + Drop {
         requires elements { SelectsElements Args.ARITY F.arity Args.accepts (F.fits (options self) (types self)) Args.reads (F.reads (options self) (types self)) Args.shown (F.shown (options self) (types self)) (types self) }
         requires output { SelectsOutput Out.element_type (Out.states Out.placeholder) (F.output (options self) (types self)) (label self) (F.placeholder (options self) (types self)) (F.room (options self) (types self)) }
         requires policy { F.policy (options self) (types self) ≡ owned_policy Args.DENSE_SAFE Args.DECODE_INFALLIBLE }
-        requires dense_safe { Args.DENSE_SAFE ≡ true }
-        requires decode_infallible { Args.DECODE_INFALLIBLE ≡ true }
         requires undeferred { F.deferred (options self) (types self) ≡ false }
         requires callable { (e : Args.Elems) → ReadsFrom Args.reads 0 (Args.cells e) → A.pre apply e }
         requires agrees { (e : Args.Elems) (r : Out) → ReadsFrom Args.reads 0 (Args.cells e) → A.post apply e r → F.meaning (options self) (types self) (Args.cells e) ≡ done (Out.states r) F.Evidence.neutral }
@@ -108,8 +104,6 @@ pub trait RowVisitor<F: RowSpec>: Sized + Drop {
         requires elements { SelectsElements Args.ARITY F.arity Args.accepts (F.fits (options self) (types self)) Args.reads (F.reads (options self) (types self)) Args.shown (F.shown (options self) (types self)) (types self) }
         requires output { SelectsOutput (bool_type not_nullable) (truth false) (F.output (options self) (types self)) (label self) (F.placeholder (options self) (types self)) (F.room (options self) (types self)) }
         requires policy { F.policy (options self) (types self) ≡ owned_policy Args.DENSE_SAFE Args.DECODE_INFALLIBLE }
-        requires dense_safe { Args.DENSE_SAFE ≡ true }
-        requires decode_infallible { Args.DECODE_INFALLIBLE ≡ true }
         requires undeferred { F.deferred (options self) (types self) ≡ false }
         requires callable { (e : Args.Elems) → ReadsFrom Args.reads 0 (Args.cells e) → A.pre apply e }
         requires agrees { (e : Args.Elems) (r : Bool) → ReadsFrom Args.reads 0 (Args.cells e) → A.post apply e r → F.meaning (options self) (types self) (Args.cells e) ≡ done (truth r) F.Evidence.neutral }

@@ -1,7 +1,7 @@
 // The columns that tests read.
 ghost use Rattle.std.specs.Prelude.{◌≡◌, true, length, IfOk, IsSome};
 ghost use Rattle.colbase.specs.declared.dtype.PType.TheVariants.{I64, U8};
-ghost use Rattle.colbase.specs.Arrays.{dtype};
+ghost use Rattle.colbase.specs.Arrays.{constant_cell, dtype};
 ghost use Rattle.rowtypes.specs.Reading.{is_bool, is_integer};
 
 use bitlane::BitBuffer;
@@ -16,6 +16,13 @@ pub fn numbers_of(values: Vec<i64>, ctx: ExecutionCtx) -> Res<ArrayRef>
     ensures { IfOk result (λ a. is_integer I64 (dtype a) ≡ true) }
 {
     PrimitiveArray::try_new(Buffer::from_vec(values, ctx)?, Validity::NonNullable, ctx)
+}
+
+/// 5.
+pub fn five_alone(ctx: ExecutionCtx) -> Result<ArrayRef, Fail>
+    ensures { IfOk result (λ a. is_integer I64 (dtype a) ≡ true) }
+{
+    Ok(numbers_of(vec![in ctx.alloc(); 5]?, ctx)?)
 }
 
 /// 1, 2.
@@ -44,10 +51,28 @@ pub fn repeated(value: i64, rows: usize, ctx: ExecutionCtx) -> Res<ArrayRef>
 
 /// The same byte in each row.
 pub fn repeated_byte(value: u8, rows: usize, ctx: ExecutionCtx) -> Res<ArrayRef>
-    ensures { IfOk result (λ a. is_integer U8 (dtype a) ≡ true) }
+    ensures accepted { IfOk result (λ a. is_integer U8 (dtype a) ≡ true) }
+    ensures constant { IfOk result (λ a. IsSome (constant_cell a)) }
 {
     let scalar = Scalar::int(value.into(), PType::U8, Nullability::NonNullable);
     ConstantArray::try_new(scalar, rows, ctx)
+}
+
+/// One byte, which is not null.
+pub fn one_byte(value: u8, ctx: ExecutionCtx) -> Result<ArrayRef, Fail>
+    ensures { IfOk result (λ a. is_integer U8 (dtype a) ≡ true) }
+{
+    let values = Buffer::from_vec(vec![in ctx.alloc(); value]?, ctx)?;
+    Ok(PrimitiveArray::try_new(values, Validity::NonNullable, ctx)?)
+}
+
+/// 2, a null at which 200 is stored, and 3.
+pub fn two_null_and_three(ctx: ExecutionCtx) -> Result<ArrayRef, Fail>
+    ensures { IfOk result (λ a. is_integer U8 (dtype a) ≡ true) }
+{
+    let values = Buffer::from_vec(vec![in ctx.alloc(); 2u8, 200, 3]?, ctx)?;
+    let valid = BitBuffer::from_vec(ctx.alloc(), vec![in ctx.alloc(); true, false, true]?)?;
+    Ok(PrimitiveArray::try_new(values, Validity::Array(valid), ctx)?)
 }
 
 /// A null in each row.

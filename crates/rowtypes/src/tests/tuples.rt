@@ -1,9 +1,10 @@
 // Worked values of tuples.
 use super::columns::{
-    masked_four, masked_twice, nulls, one_and_null, one_and_two, repeated, true_and_false,
+    five_alone, masked_four, masked_twice, nulls, one_and_null, one_and_two, one_byte, repeated,
+    true_and_false,
 };
 use super::generic::{has_rows_with_nulls, rows_of};
-use crate::{Both, ElementTuple};
+use crate::{Both, DecimalScale, ElementTuple};
 use colbase::{DType, ExecutionCtx, Fault, Nullability, PType};
 use std::test::Fail;
 
@@ -88,5 +89,19 @@ fn stored_values_below_two_masks(rt: HostRuntime) -> Result<(), Fail> {
     let columns = [masked_twice(ctx)?, true_and_false(ctx)?];
     let (rows, _) = rows_of::<(i64, bool)>(&columns, 2, ctx)?;
     assert!(rt; rows.as_slice() == [(1, true), (2, false)].as_slice());
+    Ok(())
+}
+
+#[test]
+fn a_number_beside_a_scale(rt: HostRuntime) -> Result<(), Fail> {
+    let ctx = ExecutionCtx::new(rt.alloc());
+    let columns = [five_alone(ctx)?, one_byte(19, ctx)?];
+    let told = <(i64, DecimalScale)>::decode(&columns, ctx).err();
+    assert!(rt; told == Some(Fault::Decode { index: 1 }));
+    let columns = [five_alone(ctx)?, one_byte(2, ctx)?];
+    assert_eq!(rt;
+        has_rows_with_nulls::<(i64, DecimalScale)>(&columns, 1, ctx)?,
+        None
+    );
     Ok(())
 }

@@ -10,8 +10,8 @@ is_some_all_null-requires g c = rows_from c.row_count.result 0 c.columns.result.
 pub null_answer-requires : goal.null_answer-requires
 null_answer-requires g c = ap any_nullable (c.requires.types ∙ ap types_of (sym c.columns.ensures)) ∙ c.is_some_all_null.ensures.nullable c.if-is_some_all_null.true
 
-pub execute_asked-answer-requires-clause-rows : goal.execute_asked-answer-requires-clause-rows
-execute_asked-answer-requires-clause-rows g c = rows_from c.row_count-2.result 0 c.columns-2.result.now (cc (c.columns-2.ensures, c.row_count-2.ensures, c.requires.fits.rows))
+pub full_rows-requires : goal.full_rows-requires
+full_rows-requires g c = rows_from c.row_count-2.result 0 c.columns-2.result.now (cc (c.columns-2.ensures, c.row_count-2.ensures, c.requires.fits.rows))
 
-pub finish_dense-answer-requires-clause-rows : goal.finish_dense-answer-requires-clause-rows
-finish_dense-answer-requires-clause-rows g c = rows_from c.args.args.now.row_count 0 c.args.args.now.columns c.requires.fits.rows
+pub execute_selected-requires-clause-rows : goal.execute_selected-requires-clause-rows
+execute_selected-requires-clause-rows g c = rows_from c.args.args.now.row_count 0 c.args.args.now.columns c.requires.fits.rows

@@ -1,5 +1,6 @@
 use Rattle.std.proofs.Common.{◌∙◌, length, ap, sym}
 use Rattle.rowexec.proofs.Batches.{as_many_types}
+use Rattle.rowexec.proofs.Selected.{runs_alike}
 use Rattle.rowexec.proofs.StrictRows.{accepted_from, as_many}
 use Rattle.rowtypes.specs.Rows.{logical_types}
 use Rattle.rowexec.proofs.batch.dense.execute_dense.Goals as goal
@@ -15,4 +16,5 @@ dispatch-requires-clause-ready g c =
       types_are = c.requires.types;
       accepted = accepted_from (g.F.RowSpec.fits c.args.options.now types) 0 columns (cc (c.requires.types, c.requires.planned.fit));
       asked = c.requires.asked;
+      runs = runs_alike c.args.row_count columns (ap (g.F.RowSpec.policy c.args.options.now) (sym c.requires.types)) c.requires.runs;
     }

@@ -1,14 +1,19 @@
+use Rattle.std.proofs.Common.{inr}
 use Rattle.colbase.specs.Arrays.{Array}
 use Rattle.colbase.specs.declared.fault.Fault.{Fault}
 use Rattle.rowtypes.specs.Rows.{DecodeFails}
 use Rattle.rowexec.specs.Rows.{types_of}
 use Rattle.rowexec.specs.Visits.{DenseColumn}
+use Rattle.rowexec.proofs.Selected.{one_full}
 use Rattle.rowexec.proofs.OneRow.{each_of_one, one_decoded, ran_failed, ran_repeated, ran_same}
 use Rattle.rowexec.proofs.batch.one_row.execute_one_row.Goals as goal
 use Rattle.rowexec.proofs.batch.one_row.execute_one_row.Goals.{in-Ok, in-Err}
 
 pub execute_dense-answer-requires-clause-asked : goal.execute_dense-answer-requires-clause-asked
 execute_dense-answer-requires-clause-asked g c = one_decoded 1 c.args.columns.now (each_of_one c.args.row_count c.args.columns.now c.requires.one)
+
+pub execute_dense-answer-requires-clause-runs : goal.execute_dense-answer-requires-clause-runs
+execute_dense-answer-requires-clause-runs g c = inr (λ i h. one_full c.args.row_count c.args.columns.now c.requires.rows c.requires.one i h)
 
 pub returns : goal.returns
 returns g c =

@@ -6,7 +6,9 @@ use Rattle.rowtypes.proofs.Lengths.{has_row}
 use Rattle.rowexec.specs.Rows.{full_cells}
 use Rattle.rowexec.proofs.Batches.{accepts_same, as_many_types, fails_same, shown_same}
 use Rattle.rowexec.proofs.FullRows.{shown_full}
-use Rattle.rowexec.proofs.Known.{agrees_at, failed_to_run, ran, reads_known}
+use Rattle.rowexec.proofs.Known.{agrees_at, ran, reads_known}
+use Rattle.rowexec.proofs.Reading.{row_reads}
+use Rattle.rowexec.proofs.Valid.{failed_before}
 use Rattle.rowexec.proofs.visitor.execute.ExecuteRowsRowVisitor.visit_prepared.Goals as goal
 
 pub decode-requires-clause-arity : goal.decode-requires-clause-arity
@@ -16,7 +18,7 @@ pub decode-requires-clause-types : goal.decode-requires-clause-types
 decode-requires-clause-types g c = accepts_same g.Args.ElementTuple.accepts (g.F.RowSpec.fits c.args.self.options.now (logical_types c.args.self.types.now)) c.requires.elements.fits 0 c.args.self.columns.now c.requires.ready.accepted
 
 pub returns-in-Err : goal.returns-in-Err
-returns-in-Err g c = failed_to_run _ 0 _ _ _ (omega arith) (fails_same g.Args.ElementTuple.reads (g.F.RowSpec.reads c.args.self.options.now (logical_types c.args.self.types.now)) c.requires.elements.reads 0 c.args.self.columns.now c.in-Err.fault c.in-Err.ensures.errors)
+returns-in-Err g c = failed_before _ _ _ c.before_the_rows.result.answer c.in-Err.fault c.before_the_rows.result.prepares c.before_the_rows.result.steps c.before_the_rows.ensures.answer (omega (arith, c.before_the_rows.ensures.prepares)) c.before_the_rows.ensures.steps (fails_same g.Args.ElementTuple.reads (g.F.RowSpec.reads c.args.self.options.now (logical_types c.args.self.types.now)) c.requires.elements.reads 0 c.args.self.columns.now c.in-Err.fault c.in-Err.ensures.errors)
 
 pub known_values-requires : goal.known_values-requires
 known_values-requires g c = subst (λ known. ReadsKnown g.Args.ElementTuple.reads 0 known) (sym c.in-Ok.ensures.known) (reads_known g.Args.ElementTuple.reads 0 c.args.self.columns.now c.in-Ok.ensures.read)
@@ -27,10 +29,13 @@ execute_owned_infallible-answer-requires-clause-lengths g c = ap (each_length c.
 pub execute_owned_infallible-answer-requires-clause-callable : goal.execute_owned_infallible-answer-requires-clause-callable
 execute_owned_infallible-answer-requires-clause-callable g c = λ i e h k.
     let T = g.Args.ElementTuple in
+    let law = g.met.Args.ElementTuple in
     let decoded = c.in-Ok.decoded in
     let known = c.known_values.result in
+    let columns = c.args.self.columns.now in
     let there = has_row c.args.self.row_count (T.lengths decoded) (ap (each_length c.args.self.row_count) c.in-Ok.ensures.lengths ∙ c.requires.ready.asked) i h in
-    let read : ReadsFrom T.reads 0 (T.cells e) = subst (λ cells. ReadsFrom T.reads 0 cells) (sym k) (c.in-Ok.ensures.dense c.requires.dense_safe i there) in
+    let at : ReadsFrom T.reads 0 (T.shows decoded i) = row_reads (g.F.RowSpec.policy c.args.self.options.now (logical_types c.args.self.types.now)) T.DENSE_SAFE T.DECODE_INFALLIBLE T.reads T.shown law.shown_constant law.shown_row c.args.self.row_count columns i (T.shows decoded i) c.requires.policy (λ d. c.in-Ok.ensures.dense d i there) (c.in-Ok.ensures.same i there) c.in-Ok.ensures.read h c.requires.ready.runs in
+    let read : ReadsFrom T.reads 0 (T.cells e) = subst (λ cells. ReadsFrom T.reads 0 cells) (sym k) at in
     let agree : AgreesWith (T.known known) (T.cells e) = agrees_at (T.known known) (T.known_of decoded) (T.cells e) (T.shows decoded i) c.known_values.ensures.known k (g.met.Args.ElementTuple.known_agrees decoded i) in
     c.requires.callable known c.in-Ok-prepare.prepared _ e c.known_values.ensures.read c.in-Ok-prepare.ensures refl read agree
 
@@ -47,11 +52,13 @@ returns g c =
     let lengths = ap (each_length n) c.in-Ok.ensures.lengths ∙ c.requires.ready.asked in
     let there = λ (i : ℕ) (h : i < n). has_row n (T.lengths decoded) lengths i h in
     let same = λ (i : ℕ) (h : i < n). c.in-Ok.ensures.same i (there i h) ∙ shown_same T.shown shown c.requires.elements.shown 0 columns i in
+    let law = g.met.Args.ElementTuple in
+    let at = λ (i : ℕ) (h : i < n). row_reads (g.F.RowSpec.policy c.args.self.options.now (logical_types c.args.self.types.now)) T.DENSE_SAFE T.DECODE_INFALLIBLE T.reads T.shown law.shown_constant law.shown_row n columns i (T.shows decoded i) c.requires.policy (λ d. c.in-Ok.ensures.dense d i (there i h)) (c.in-Ok.ensures.same i (there i h)) c.in-Ok.ensures.read h c.requires.ready.runs in
     let full = λ (i : ℕ) (cells : List Cell) (h : full_cells columns i ≡ Some cells). sym (shown_same T.shown shown c.requires.elements.shown 0 columns i) ∙ shown_full T.shown g.met.Args.ElementTuple.shown_constant g.met.Args.ElementTuple.shown_row 0 columns i cells h in
     let ran_loop = c.execute_owned_infallible-answer in
     ran ran_loop.result.0 n ran_loop.result.1 (g.F.RowSpec.meaning self.options.now types) g.F.Evidence.FailureEvidence.neutral (g.F.RowSpec.reads self.options.now types) shown (g.F.RowSpec.output self.options.now types).storage g.Out.OutputElement.element_type columns T.cells (T.shows decoded) g.Out.OutputElement.states
     c.requires.output.storage same
     (λ i h x y k p. c.requires.agrees known c.in-Ok-prepare.prepared _ x y c.known_values.ensures.read c.in-Ok-prepare.ensures refl
-    (subst (λ cells. ReadsFrom T.reads 0 cells) (sym k) (c.in-Ok.ensures.dense c.requires.dense_safe i (there i h)))
+    (subst (λ cells. ReadsFrom T.reads 0 cells) (sym k) (at i h))
     (agrees_at (T.known known) (T.known_of decoded) (T.cells x) (T.shows decoded i) c.known_values.ensures.known k (g.met.Args.ElementTuple.known_agrees decoded i)) p)
     full ran_loop.ensures.dtype ran_loop.ensures.len ran_loop.ensures.rows ran_loop.ensures.errors ran_loop.ensures.most ran_loop.ensures.least

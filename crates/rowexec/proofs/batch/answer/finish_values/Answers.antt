@@ -13,13 +13,13 @@ use Rattle.rowexec.specs.Rows.{StrictRow, full_cells, types_of}
 use Rattle.rowexec.proofs.Results.{ok_then}
 use Rattle.rowexec.proofs.StrictRows.{output_not_null, relabel_type, relabelled_type, strict_row}
 use Rattle.rowexec.proofs.Tables.{len_of_table, row_of_table}
-use Rattle.rowexec.proofs.batch.dense.finish_dense.Goals as goal
+use Rattle.rowexec.proofs.batch.answer.finish_values.Goals as goal
 
 pub relabel_output-requires : goal.relabel_output-requires
 relabel_output-requires g c =
     let s = logical_type c.args.plan.now.storage in
     let b = c.is_any_nullable.result in
-    let stored : dtype c.args.values ≡ s = cc (c.requires.dense.stored, c.requires.plan.stored) in
+    let stored : dtype c.args.values ≡ s = cc (c.requires.values.stored, c.requires.plan.stored) in
     let typed : dtype c.in_ok-masked.masked ≡ made_nullable b s = c.in_ok-masked.ensures.dtype ∙ ap (made_nullable b) stored in
     typed ∙ relabel_type b s c.args.plan.now.not_nullable ∙ ap (λ t. with_nullability s (nullability_of t)) (sym typed)
 
@@ -27,7 +27,7 @@ pub returns-clause-len : goal.returns-clause-len
 returns-clause-len g c =
     let masked = c.in_ok-masked.masked in
     ok_then (λ a. rows a ≡ rows masked) (λ a. len a ≡ c.args.args.now.row_count) c.relabel_output.result
-    (λ a e. len_of_table a (row masked) (len masked) e ∙ c.in_ok-masked.ensures.len ∙ c.requires.dense.counted) c.relabel_output.ensures.rows
+    (λ a e. len_of_table a (row masked) (len masked) e ∙ c.in_ok-masked.ensures.len ∙ c.requires.values.counted) c.relabel_output.ensures.rows
 
 pub returns-clause-rows : goal.returns-clause-rows
 returns-clause-rows g c =
@@ -36,19 +36,17 @@ returns-clause-rows g c =
     let types = types_of columns in
     let masked = c.in_ok-masked.masked in
     let values = c.args.values in
-    let full = c.in_ok-full.full in
+    let full = c.args.full.now in
     let finish = g.F.RowSpec.finish in
     let meaning = g.F.RowSpec.meaning c.args.options.now types in
-    let shown = g.F.RowSpec.shown c.args.options.now types in
     let neutral = g.F.Evidence.FailureEvidence.neutral in
-    let dense = c.requires.dense in
+    let given = c.requires.values in
     ok_then (λ a. rows a ≡ rows masked) (λ a. (i : ℕ) → i < n → StrictRow finish meaning (full_cells columns i) (row a i)) c.relabel_output.result
     (λ a e i h.
-    let hm : i < len masked = subst (λ m. i < m) (sym (c.in_ok-masked.ensures.len ∙ dense.counted)) h in
-    let hv : i < len values = subst (λ m. i < m) (sym dense.counted) h in
-    let tells = c.in_ok-full.ensures.tells i (subst (λ m. i < m) (sym c.row_count.ensures) h) ∙ ap (λ xs. is_some (full_cells xs i)) c.columns.ensures in
+    let hm : i < len masked = subst (λ m. i < m) (sym (c.in_ok-masked.ensures.len ∙ given.counted)) h in
+    let hv : i < len values = subst (λ m. i < m) (sym given.counted) h in
     let here = row_of_table a (row masked) (len masked) e i hm ∙ c.in_ok-masked.ensures.rows i hv in
-    strict_row finish meaning neutral (full_cells columns i) (shown_from shown 0 columns i) (valid_at full i) (row a i) (row values i) g.met.F.RowSpec.finish_laws.accepts_neutral tells here (dense.each i h) (λ cs k. dense.full i cs k))
+    strict_row finish meaning neutral (full_cells columns i) (valid_at full i) (row a i) (row values i) g.met.F.RowSpec.finish_laws.accepts_neutral (c.requires.tells i h) here (λ cs k. given.each i cs h k))
     c.relabel_output.ensures.rows
 
 pub returns-clause-dtype : goal.returns-clause-dtype
@@ -60,7 +58,7 @@ returns-clause-dtype g c =
     let output = g.F.RowSpec.output c.args.options.now types in
     let masked = c.in_ok-masked.masked in
     let out = (plan_of c.args.plan.now).output in
-    let stored : dtype c.args.values ≡ s = cc (c.requires.dense.stored, c.requires.plan.stored) in
+    let stored : dtype c.args.values ≡ s = cc (c.requires.values.stored, c.requires.plan.stored) in
     let typed : dtype masked ≡ made_nullable b s = c.in_ok-masked.ensures.dtype ∙ ap (made_nullable b) stored in
     let InOrderBy : Option LogicalType → Type 0 = λ o. InOrder o output.label in
     let in_order : InOrder (Some s) output.label = subst InOrderBy c.requires.plan.stored c.requires.plan.in_order in

@@ -1,0 +1,51 @@
+-- Which of the cells that the arguments show at a row are read.
+use Rattle.std.proofs.Common.{◌≡◌, ℕ, suc, ◌<◌, Bool, true, false, List, [], ◌∷◌, Option, None, Some, inl, inr, refl, sym, subst, arith}
+use Rattle.std.specs.Prelude.{IsSome, is_some}
+use Rattle.colbase.specs.Arrays.{Array, len, row}
+use Rattle.colbase.specs.Cell.{Cell}
+use Rattle.rowtypes.specs.Arguments.{ShowsConstant, ShowsRow}
+use Rattle.rowtypes.specs.Rows.{ReadsAll, ReadsAllFrom, ReadsFrom, shown_from}
+use Rattle.rowtypes.specs.Shown.{batch_value}
+use Rattle.rowplan.specs.Policies.{owned_policy}
+use Rattle.rowplan.specs.declared.batch_plan.RowPolicy.{RowPolicy}
+use Rattle.rowexec.specs.Counts.{runs_valid_only}
+use Rattle.rowexec.specs.Rows.{EachHasRows, full_cells, with_cell}
+use Rattle.rowexec.specs.Visits.{FullAt, MayRunAll}
+use Rattle.rowexec.proofs.FullRows.{shown_at}
+
+-- where a policy runs all rows, the elements are dense safe
+dense_safe_of : (policy : RowPolicy) (safe infallible : Bool) → runs_valid_only policy ≡ false → policy ≡ owned_policy safe infallible → safe ≡ true
+dense_safe_of policy true infallible h e = refl
+dense_safe_of policy false infallible h e =
+    let k : runs_valid_only (owned_policy false infallible) ≡ false = subst (λ (p : RowPolicy). runs_valid_only p ≡ false) e h in
+    absurd (cc)
+
+shown_read : (reads : Cell → Type 0) (shown : Array → ℕ → Cell) → ShowsConstant shown → ShowsRow shown → (a : Array) (i : ℕ) (o : Option Cell) → row a i ≡ o → ReadsAll reads a → i < len a → IsSome o → reads (shown a i)
+shown_read reads shown p q a i None e r h s = absurd (cc)
+shown_read reads shown p q a i (Some c) e r h s = subst reads (sym (shown_at shown p q a i c (batch_value a) refl e)) (r c (inl (i, h, e)))
+
+-- where no argument is null at a row, the cells shown there are read
+full_reads : (reads : ℕ → Cell → Type 0) (shown : ℕ → Array → ℕ → Cell) → ((k : ℕ) → ShowsConstant (shown k)) → ((k : ℕ) → ShowsRow (shown k)) → (k : ℕ) (arrays : List Array) (i : ℕ) → ReadsAllFrom reads k arrays → FullAt i arrays → ReadsFrom reads k (shown_from shown k arrays i)
+full_reads reads shown p q k [] i r f = tt
+full_reads reads shown p q k (a ∷ arrays) i r f = (shown_read (reads k) (shown k) (p k) (q k) a i (row a i) refl r.0 f.0 f.1, full_reads reads shown p q (suc k) arrays i r.1 f.2)
+
+-- so are cells that a decoded row shows there
+pub full_row_reads : (reads : ℕ → Cell → Type 0) (shown : ℕ → Array → ℕ → Cell) → ((k : ℕ) → ShowsConstant (shown k)) → ((k : ℕ) → ShowsRow (shown k)) → (columns : List Array) (i : ℕ) (cells : List Cell) → cells ≡ shown_from shown 0 columns i → ReadsAllFrom reads 0 columns → FullAt i columns → ReadsFrom reads 0 cells
+full_row_reads reads shown p q columns i cells e r f = subst (λ (c : List Cell). ReadsFrom reads 0 c) (sym e) (full_reads reads shown p q 0 columns i r f)
+
+-- where all rows may run, the cells that a decoded row shows are read, if they are by dense safe elements
+pub row_reads : (policy : RowPolicy) (safe infallible : Bool) (reads : ℕ → Cell → Type 0) (shown : ℕ → Array → ℕ → Cell) → ((k : ℕ) → ShowsConstant (shown k)) → ((k : ℕ) → ShowsRow (shown k)) → (n : ℕ) (columns : List Array) (i : ℕ) (cells : List Cell) → policy ≡ owned_policy safe infallible → (safe ≡ true → ReadsFrom reads 0 cells) → cells ≡ shown_from shown 0 columns i → ReadsAllFrom reads 0 columns → i < n → MayRunAll policy n columns → ReadsFrom reads 0 cells
+row_reads policy safe infallible reads shown p q n columns i cells is dense e r h (inl all) = dense (dense_safe_of policy safe infallible all is)
+row_reads policy safe infallible reads shown p q n columns i cells is dense e r h (inr full) = full_row_reads reads shown p q columns i cells e r (full i h)
+
+both_some : (o : Option Cell) (rest : Option (List Cell)) → is_some (with_cell o rest) ≡ true → IsSome o × (is_some rest ≡ true)
+both_some (Some c) (Some cells) h = (refl, refl)
+both_some (Some c) None h = absurd (cc)
+both_some None rest h = absurd (cc)
+
+-- a row whose cells are there is a full row
+pub full_at : (n i : ℕ) (arrays : List Array) → EachHasRows n arrays → i < n → is_some (full_cells arrays i) ≡ true → FullAt i arrays
+full_at n i [] e h f = tt
+full_at n i (a ∷ arrays) e h f =
+    let s = both_some (row a i) (full_cells arrays i) f in
+    (omega (arith, e.0), s.0, full_at n i arrays e.1 h s.1)

@@ -1,0 +1,174 @@
+-- Which rows of a batch run, and how many.
+use Rattle.std.proofs.Common.{◌≡◌, ◌∙◌, ℕ, zero, suc, ◌<◌, ◌≤◌, ◌||◌, ◌&&◌, ◌==◌, Bool, true, false, List, [], ◌∷◌, length, Option, None, Some, Result, Ok, Err, inl, inr, refl, ap, sym, subst, arith}
+use Rattle.std.proofs.lemmas.Bool.Decides.{nat_tests}
+use Rattle.std.specs.Prelude.{IfOk, IsSome, MatchResult, is_some, nat_lt}
+use Rattle.bitlane.specs.Bits.{bit, tabulate}
+use Rattle.colbase.specs.Arrays.{Array, len, row}
+use Rattle.colbase.specs.Cell.{Cell}
+use Rattle.colbase.specs.Keep.{trues}
+use Rattle.colbase.specs.LogicalType.{LogicalType}
+use Rattle.colbase.specs.Parts.{own_validity}
+use Rattle.colbase.specs.Valid.{validity_kind}
+use Rattle.colbase.specs.declared.fault.Fault.{Fault}
+use Rattle.rowtypes.specs.Shown.{batch_value}
+use Rattle.rowplan.specs.Outcomes.{Outcome}
+use Rattle.rowplan.specs.declared.batch_plan.RowPolicy.{RowPolicy}
+use Rattle.rowexec.specs.Counts.{each_one_value, full_bits, is_no_nulls, is_one_value, one_row, policy_steps, runs_valid_only, settled, some_column, steps_asked}
+use Rattle.rowexec.specs.Rows.{EachHasRows, full_cells, some_all_null}
+use Rattle.rowexec.specs.Selections.{Selected}
+use Rattle.rowexec.specs.declared.batch.selection.Selection.{Selection}
+use Rattle.rowexec.specs.Visits.{DenseColumn, FullAt, MayRunAll, RanRows, ValidColumn}
+use Rattle.rowexec.proofs.FullRows.{picked}
+use Rattle.rowexec.proofs.OneRow.{both_parts, value_of, value_row}
+
+pub runs_alike : {p q : RowPolicy} (n : ℕ) (columns : List Array) → q ≡ p → MayRunAll q n columns → MayRunAll p n columns
+runs_alike n columns e h = subst (λ x. MayRunAll x n columns) e h
+
+is_there : (o : Option Cell) (x : Cell) → o ≡ Some x → IsSome o
+is_there o x e = ap is_some e
+
+-- each row of columns that are one value is full
+values_full : (n i : ℕ) (arrays : List Array) → EachHasRows n arrays → each_one_value arrays ≡ true → i < n → FullAt i arrays
+values_full n i [] r h b = tt
+values_full n i (a ∷ arrays) r h b =
+    let p = both_parts (is_one_value a) (each_one_value arrays) h in
+    let q = both_parts (is_no_nulls (validity_kind (own_validity a))) (is_some (batch_value a)) p.0 in
+    let known = value_of (batch_value a) q.1 in (
+      subst (λ m. i < m) (sym r.0) b,
+      is_there (row a i) known.value (value_row a i known.value q.0 (picked (nat_lt 0 (len a)) _ known.value known.is)),
+      values_full n i arrays r.1 p.1 b,
+    )
+
+-- the one row that stands for all is full
+pub one_full : (n : ℕ) (columns : List Array) → EachHasRows n columns → one_row n columns ≡ true → (i : ℕ) → i < 1 → FullAt i columns
+one_full n columns r h i b =
+    let p = both_parts (nat_lt 0 n) (some_column columns && each_one_value columns) h in
+    let few : 0 < n = grind (arith, nat_tests, p.0) in
+    values_full n i columns r (both_parts (some_column columns) (each_one_value columns) p.1).1 (omega (arith, few, b))
+
+-- a column of all rows gives the rows without a null argument
+pub valid_column : {E : Type 0} (meaning : List Cell → Outcome E) (neutral : E) (shown : ℕ → Array → ℕ → Cell) (storage : Option LogicalType) (columns : List Array) (n : ℕ) (a : Array) → DenseColumn meaning neutral shown storage columns n a → ValidColumn meaning neutral storage columns n a
+valid_column meaning neutral shown storage columns n a d = record {
+  stored = d.stored;
+  counted = d.counted;
+  each = λ i cells h k. record {
+    cell = (d.each i h).cell;
+    is = (d.each i h).is;
+    outcome = ap meaning (sym (d.full i cells k)) ∙ (d.each i h).outcome;
+  };
+}
+
+given : (r : Result Array Fault) (P Q : Array → Type 0) (Fails : Fault → Type 0) → ((a : Array) → P a → Q a) → MatchResult r P Fails → MatchResult r Q Fails
+given (Ok a) P Q Fails f h = f a h
+given (Err e) P Q Fails f h = h
+
+-- a run of all rows, as one of the rows that a policy asks for
+pub ran_all : {E : Type 0} (meaning : List Cell → Outcome E) (neutral : E) (shown : ℕ → Array → ℕ → Cell) (storage : Option LogicalType) (columns : List Array) (n m k : ℕ) (Fails : Fault → Type 0) (r : Result Array Fault) (prepares steps : ℕ) → m ≡ k → RanRows m (DenseColumn meaning neutral shown storage columns n) Fails r prepares steps → RanRows k (ValidColumn meaning neutral storage columns n) Fails r prepares steps
+ran_all meaning neutral shown storage columns n m k Fails r prepares steps e ran =
+    let Runs : ℕ → Type 0 = λ x. RanRows x (ValidColumn meaning neutral storage columns n) Fails r prepares steps in
+    subst Runs e (record {
+      answered = given r (DenseColumn meaning neutral shown storage columns n) (ValidColumn meaning neutral storage columns n) Fails (valid_column meaning neutral shown storage columns n) ran.answered;
+      prepared = ran.prepared;
+      most = ran.most;
+      least = ran.least;
+    })
+
+pub ran_as_many : (Gives : Array → Type 0) (Fails : Fault → Type 0) (m k : ℕ) (r : Result Array Fault) (prepares steps : ℕ) → m ≡ k → RanRows m Gives Fails r prepares steps → RanRows k Gives Fails r prepares steps
+ran_as_many Gives Fails m k r prepares steps e ran =
+    let Runs : ℕ → Type 0 = λ x. RanRows x Gives Fails r prepares steps in
+    subst Runs e ran
+
+full_is_some : (i : ℕ) (arrays : List Array) → FullAt i arrays → is_some (full_cells arrays i) ≡ true
+full_is_some i [] h = refl
+full_is_some i (a ∷ arrays) h = both_some (row a i) (full_cells arrays i) h.1 (full_is_some i arrays h.2)
+  where
+    both_some : (o : Option Cell) (rest : Option (List Cell)) → IsSome o → is_some rest ≡ true → is_some (Rattle.rowexec.specs.Rows.with_cell o rest) ≡ true
+    both_some (Some x) (Some xs) p q = refl
+    both_some (Some x) None p q = absurd (cc)
+    both_some None rest p q = absurd (cc)
+
+-- how many of n truth values are true, where all are and where none is
+trues_all : (f : ℕ → Bool) (n : ℕ) → ((i : ℕ) → i < n → f i ≡ true) → trues (tabulate f n) ≡ n
+trues_all f zero h = refl
+trues_all f (suc n) h = true_first (f 0) (tabulate (λ i. f (suc i)) n) (h 0 (omega arith)) ∙ ap suc (trues_all (λ i. f (suc i)) n (λ i b. h (suc i) (omega (arith, b))))
+  where
+    true_first : (b : Bool) (bits : List Bool) → b ≡ true → trues (b ∷ bits) ≡ suc (trues bits)
+    true_first true bits e = refl
+    true_first false bits e = absurd (cc)
+
+trues_none : (f : ℕ → Bool) (n : ℕ) → ((i : ℕ) → i < n → f i ≡ false) → trues (tabulate f n) ≡ 0
+trues_none f zero h = refl
+trues_none f (suc n) h = false_first (f 0) (tabulate (λ i. f (suc i)) n) (h 0 (omega arith)) ∙ trues_none (λ i. f (suc i)) n (λ i b. h (suc i) (omega (arith, b)))
+  where
+    false_first : (b : Bool) (bits : List Bool) → b ≡ false → trues (b ∷ bits) ≡ trues bits
+    false_first false bits e = refl
+    false_first true bits e = absurd (cc)
+
+-- marks that are told at each row
+marks_are : (f : ℕ → Bool) (n : ℕ) (marks : List Bool) → length marks ≡ n → ((i : ℕ) → i < n → bit marks i ≡ f i) → tabulate f n ≡ marks
+marks_are f zero [] l h = refl
+marks_are f zero (b ∷ marks) l h = absurd (omega (arith, l))
+marks_are f (suc n) [] l h = absurd (omega (arith, l))
+marks_are f (suc n) (b ∷ marks) l h = ap (λ x. x ∷ tabulate (λ i. f (suc i)) n) (sym (h 0 (omega arith))) ∙ ap (λ bits. b ∷ bits) (marks_are (λ i. f (suc i)) n marks (omega (arith, l)) (λ i k. h (suc i) (omega (arith, k))))
+
+pub steps_of_one : (policy : RowPolicy) (n : ℕ) (columns : List Array) → some_all_null columns ≡ false → one_row n columns ≡ true → 1 ≡ steps_asked policy n columns
+steps_of_one policy n columns s o = rw s (rw o refl)
+
+policy_steps_all : (policy : RowPolicy) (n : ℕ) (columns : List Array) → MayRunAll policy n columns → n ≡ policy_steps policy n columns
+policy_steps_all policy n columns (inl r) = rw r refl
+policy_steps_all policy n columns (inr full) = go (runs_valid_only policy)
+  where
+    go : (b : Bool) → n ≡ (Rattle.std.specs.Prelude.cond b (trues (full_bits n columns)) n)
+    go true = sym (trues_all (λ i. is_some (full_cells columns i)) n (λ i h. full_is_some i columns (full i h)))
+    go false = refl
+
+pub steps_of_all : (policy : RowPolicy) (n : ℕ) (columns : List Array) → some_all_null columns ≡ false → one_row n columns ≡ false → MayRunAll policy n columns → n ≡ steps_asked policy n columns
+steps_of_all policy n columns s o h = rw s (rw o (policy_steps_all policy n columns h))
+
+pub steps_of_marks : (policy : RowPolicy) (n : ℕ) (columns : List Array) (marks : List Bool) → some_all_null columns ≡ false → one_row n columns ≡ false → runs_valid_only policy ≡ true → length marks ≡ n → ((i : ℕ) → i < n → bit marks i ≡ is_some (full_cells columns i)) → trues marks ≡ steps_asked policy n columns
+steps_of_marks policy n columns marks s o r l h = rw s (rw o (rw r (ap trues (sym (marks_are (λ i. is_some (full_cells columns i)) n marks l h)))))
+
+pub no_steps : (policy : RowPolicy) (n : ℕ) (columns : List Array) → some_all_null columns ≡ false → one_row n columns ≡ false → runs_valid_only policy ≡ true → ((i : ℕ) → i < n → is_some (full_cells columns i) ≡ false) → steps_asked policy n columns ≡ 0
+no_steps policy n columns s o r h = rw s (rw o (rw r (trues_none (λ i. is_some (full_cells columns i)) n h)))
+
+not_zero : (t : ℕ) → 0 < t → (t == 0) ≡ false
+not_zero t h = grind (arith, nat_tests, h)
+
+some_rows : (n : ℕ) → nat_lt 0 n ≡ true → 0 < n
+some_rows n h = grind (arith, nat_tests, h)
+
+-- a call is not settled where the policy runs some row of each batch that has rows
+unsettled : (policy : RowPolicy) (n : ℕ) (columns : List Array) → some_all_null columns ≡ false → (runs_valid_only policy ≡ true → 0 < n → 0 < trues (full_bits n columns)) → settled policy n columns ≡ false
+unsettled policy n columns s h = rw s (go (runs_valid_only policy) (nat_lt 0 n) refl refl)
+  where
+    go : (r z : Bool) → runs_valid_only policy ≡ r → nat_lt 0 n ≡ z → (r && (z && (trues (full_bits n columns) == 0))) ≡ false
+    go false z e f = refl
+    go true false e f = refl
+    go true true e f = not_zero (trues (full_bits n columns)) (h e (some_rows n f))
+
+trues_full : (n : ℕ) (columns : List Array) → ((i : ℕ) → i < n → FullAt i columns) → trues (full_bits n columns) ≡ n
+trues_full n columns h = trues_all (λ i. is_some (full_cells columns i)) n (λ i b. full_is_some i columns (h i b))
+
+pub unsettled_one : (policy : RowPolicy) (n : ℕ) (columns : List Array) → some_all_null columns ≡ false → EachHasRows n columns → one_row n columns ≡ true → settled policy n columns ≡ false
+unsettled_one policy n columns s r o =
+    let p = both_parts (nat_lt 0 n) (some_column columns && each_one_value columns) o in
+    let values = (both_parts (some_column columns) (each_one_value columns) p.1).1 in
+    unsettled policy n columns s (λ e f. omega (arith, f, trues_full n columns (λ i b. values_full n i columns r values b)))
+
+pub unsettled_all : (policy : RowPolicy) (n : ℕ) (columns : List Array) → some_all_null columns ≡ false → MayRunAll policy n columns → settled policy n columns ≡ false
+unsettled_all policy n columns s (inl r) = unsettled policy n columns s (λ e f. absurd (cc (r, e)))
+unsettled_all policy n columns s (inr full) = unsettled policy n columns s (λ e f. omega (arith, f, trues_full n columns full))
+
+pub unsettled_marks : (policy : RowPolicy) (n : ℕ) (columns : List Array) (marks : List Bool) → some_all_null columns ≡ false → length marks ≡ n → ((i : ℕ) → i < n → bit marks i ≡ is_some (full_cells columns i)) → 0 < trues marks → settled policy n columns ≡ false
+unsettled_marks policy n columns marks s l h m = unsettled policy n columns s (λ e f. omega (arith, m, ap trues (marks_are (λ i. is_some (full_cells columns i)) n marks l h)))
+
+pub no_cells : (o : Option (List Cell)) → is_some o ≡ false → o ≡ None
+no_cells None h = refl
+no_cells (Some cells) h = absurd (cc)
+
+pub selected_at : (p q : RowPolicy) (m n : ℕ) (xs ys : List Array) (chosen : Selection) → p ≡ q → m ≡ n → xs ≡ ys → Selected p m xs chosen → Selected q n ys chosen
+selected_at p q m n xs ys chosen e f h s =
+    let ByPolicy : RowPolicy → Type 0 = λ x. Selected x n ys chosen in
+    let ByRows : ℕ → Type 0 = λ x. Selected p x ys chosen in
+    let ByColumns : List Array → Type 0 = λ x. Selected p m x chosen in
+    subst ByPolicy e (subst ByRows f (subst ByColumns h s))

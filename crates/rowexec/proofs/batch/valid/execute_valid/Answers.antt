@@ -1,0 +1,26 @@
+use Rattle.std.proofs.Common.{length}
+use Rattle.colbase.specs.Arrays.{Array}
+use Rattle.colbase.specs.Keep.{trues}
+use Rattle.colbase.specs.declared.fault.Fault.{Fault}
+use Rattle.rowtypes.specs.Rows.{DecodeFails}
+use Rattle.rowexec.specs.Reads.{ReadFails}
+use Rattle.rowexec.specs.Rows.{types_of}
+use Rattle.rowexec.specs.Visits.{ValidColumn}
+use Rattle.rowexec.proofs.Unread.{ran_refused, ran_through, ran_weaker, read_fails}
+use Rattle.rowexec.proofs.batch.valid.execute_valid.Goals as goal
+use Rattle.rowexec.proofs.batch.valid.execute_valid.Goals.{in-Ok-Some, in-Err}
+
+pub returns : goal.returns
+returns g c =
+    let columns = c.args.columns.now in
+    let types = types_of columns in
+    let marks = c.args.valid.now in
+    let n = trues marks in
+    let reads = g.F.RowSpec.reads c.args.options.now types in
+    let Gives : Array → Type 0 = ValidColumn (g.F.RowSpec.meaning c.args.options.now types) g.F.Evidence.FailureEvidence.neutral (g.F.RowSpec.output c.args.options.now types).storage columns (length marks) in
+    let Fails : Fault → Type 0 = DecodeFails reads 0 columns in
+    let told = c.execute_direct-answer.result in
+    ran_weaker n Gives Gives Fails (ReadFails reads 0 columns) c.match-answer.answer told.prepares told.steps (λ a h. h) (read_fails reads 0 columns) (elim c.match-answer.branch [
+      | in-Ok-Some w ↦ ran_through n Gives Fails told.answer w.in-Ok-Some.field-0 w.in-Ok-Some.values c.match-answer.answer told.prepares told.steps c.execute_direct-answer.ensures w.in-Ok-Some.is w.in-Ok-Some.field-0-is w.answer-is
+      | in-Err w ↦ ran_refused n Gives Fails told.answer w.in-Err.fault c.match-answer.answer told.prepares told.steps c.execute_direct-answer.ensures w.in-Err.is w.answer-is
+    ])

@@ -1,0 +1,22 @@
+-- Why the arguments of a batch are not read.
+use Rattle.std.specs.Prelude.{◌≡◌, ◌⊎◌, ℕ, suc, List, [], ◌∷◌}
+use Rattle.colbase.specs.Arrays.{Array}
+use Rattle.colbase.specs.Cell.{Cell}
+use Rattle.colbase.specs.declared.fault.Fault.{Fault}
+use Rattle.colbase.specs.declared.fault.Fault.TheVariants.{Decode, Memory}
+use Rattle.rowtypes.specs.Reading.{Unread}
+
+-- the array at place j holds a cell that is not read; the places are counted from k on
+abbrev pub UnreadAt : (ℕ → Cell → Type 0) → ℕ → List Array → ℕ → Type 0
+UnreadAt reads k [] j = ⊥
+UnreadAt reads k (a ∷ arrays) j = ((j ≡ k) × Unread (reads k) a) ⊎ UnreadAt reads (suc k) arrays j
+
+-- the fault names an argument that has a cell that is not read
+pub record NamesArgument (reads : ℕ → Cell → Type 0) (k : ℕ) (arrays : List Array) (e : Fault) : Type 0 where
+  pub place : ℕ
+  pub is : e ≡ Decode place
+  pub unread : UnreadAt reads k arrays place
+
+-- want of memory, or an argument that has a cell that is not read: of several not always the lowest, since the rows that run may leave its cell out
+abbrev pub ReadFails : (ℕ → Cell → Type 0) → ℕ → List Array → Fault → Type 0
+ReadFails reads k arrays e = (e ≡ Memory) ⊎ NamesArgument reads k arrays e

@@ -1,0 +1,153 @@
+// Loops over arguments that were filtered to the valid rows, whose callback gives a value.
+ghost use Rattle.std.specs.Prelude.{◌≡◌, ◌<◌, ◌≤◌, ℕ, length, count_by, slice_index_or, true, IfOk, IfErr, IsSome};
+ghost use Rattle.bitlane.specs.Maps.{MapsTo};
+ghost use Rattle.colbase.specs.Arrays.{dtype, len, row};
+ghost use Rattle.colbase.specs.Keep.{place};
+ghost use Rattle.rowtypes.specs.Outputs.{StatesAnswer};
+ghost use Rattle.rowtypes.specs.Rows.{each_length};
+
+use bitlane::{BitBuffer, IndexedSource};
+use colbase::{ArrayRef, ExecutionCtx, Fault, Res};
+use rowtypes::{ElementTuple, IndexedElementTuple, OutputBuffer, OutputElement, RowsVisitor};
+use std::marker::PhantomData;
+
+/// The answers of a callback that doesn't fail to arguments that were filtered to the valid rows, each at the row that it was
+/// filtered from, as a column without nulls whose other rows hold the default; and how often it was called. The callback is
+/// lent the prepared value. Whether an argument is one value or a column is told before the loop.
+pub(crate) fn execute_owned_infallible_filtered<
+    Args: IndexedElementTuple,
+    Out: OutputElement,
+    P: Drop,
+    A: Fn(&P, Args::Elems) -> Out,
+>(
+    columns: &Args::Columns,
+    valid: &BitBuffer,
+    prepared: &P,
+    apply: A,
+    ctx: ExecutionCtx,
+) -> (Res<ArrayRef>, u128)
+    requires lengths { each_length (count_by (λ b. b) valid.now) (Args.lengths columns.now) ≡ true }
+    requires callable { (j : ℕ) (e : Args.Elems) → j < count_by (λ b. b) valid.now → Args.cells e ≡ Args.shows columns.now j → A.pre apply prepared e }
+    ensures dtype { IfOk result.0 (λ a. dtype a ≡ Out.element_type) }
+    ensures len { IfOk result.0 (λ a. len a ≡ length valid.now) }
+    ensures rows { IfOk result.0 (λ a. (j : ℕ) → j < count_by (λ b. b) valid.now → StatesAnswer (λ e. Args.cells e ≡ Args.shows columns.now j) (λ e r. A.post apply prepared.entry e r) Out.states (row a (place valid.now j))) }
+    ensures not_null { IfOk result.0 (λ a. (i : ℕ) → i < length valid.now → IsSome (row a i)) }
+    ensures errors { IfErr result.0 (λ e. e ≡ Fault.Memory) }
+    ensures most { result.1 ≤ count_by (λ b. b) valid.now }
+    ensures least { IfOk result.0 (λ a. count_by (λ b. b) valid.now ≤ result.1) }
+{
+    let visitor = BuildFilteredRows::<Args, Out, P, A> {
+        columns,
+        valid,
+        prepared,
+        apply,
+        output: PhantomData,
+        ctx,
+    };
+    Args::visit_rows(columns, valid.true_count(), visitor)
+}
+
+/// Builds a column of the answers of a callback to the filtered rows.
+#[derive(Drop)]
+struct BuildFilteredRows<'a, Args: ElementTuple, Out, P, A> {
+    columns: &'a Args::Columns,
+    valid: &'a BitBuffer,
+    prepared: &'a P,
+    apply: A,
+    output: PhantomData<Out>,
+    ctx: ExecutionCtx,
+}
+
+impl<
+    'a,
+    Args: ElementTuple,
+    Out: OutputElement,
+    P: Drop,
+    A: Fn(&P, Args::Elems) -> Out,
+> RowsVisitor<Args> for BuildFilteredRows<'a, Args, Out, P, A> {
+    ghost use Rattle.std.specs.Prelude.{◌≡◌, ◌<◌, ◌≤◌, ℕ, length, count_by, IfOk, IfErr, IsSome};
+    ghost use Rattle.colbase.specs.Arrays.{dtype, len, row};
+    ghost use Rattle.colbase.specs.Keep.{place};
+    ghost use Rattle.colbase.specs.declared.fault.Fault.TheVariants.{Memory};
+    ghost use Rattle.rowtypes.specs.Outputs.{StatesAnswer};
+
+    type Output = (Res<ArrayRef>, u128);
+
+    ghost rows = { λ s. count_by (λ b. b) s.valid.now };
+
+    ghost may_be = { λ s j e. Args.cells e ≡ Args.shows s.columns.now j };
+
+    ghost ready = { λ s. (j : ℕ) (e : Args.Elems) → j < count_by (λ b. b) s.valid.now → Args.cells e ≡ Args.shows s.columns.now j → A.pre s.apply s.prepared e };
+
+    ghost gives = { λ s r. IfOk r.0 (λ a. dtype a ≡ Out.element_type) × IfOk r.0 (λ a. len a ≡ length s.valid.now) × IfOk r.0 (λ a. (j : ℕ) → j < count_by (λ b. b) s.valid.now → StatesAnswer (λ e. Args.cells e ≡ Args.shows s.columns.now j) (λ e r. A.post s.apply s.prepared e r) Out.states (row a (place s.valid.now j))) × IfOk r.0 (λ a. (i : ℕ) → i < length s.valid.now → IsSome (row a i)) × IfErr r.0 (λ e. e ≡ Memory) × (r.1 ≤ count_by (λ b. b) s.valid.now) × IfOk r.0 (λ a. count_by (λ b. b) s.valid.now ≤ r.1) };
+
+    fn visit<S: IndexedSource<Item = Args::Elems> + Drop>(
+        self,
+        source: S,
+    ) -> (Res<ArrayRef>, u128) {
+        build_filtered_rows::<Out, P, S, A>(
+            &source,
+            self.valid,
+            self.prepared,
+            self.apply,
+            self.ctx,
+        )
+    }
+}
+
+/// The answers to the items of a source at the valid rows, one item for each, as a column without nulls; and how often the
+/// callback was called.
+fn build_filtered_rows<Out: OutputElement, P: Drop, S: IndexedSource, A: Fn(&P, S::Item) -> Out>(
+    source: &S,
+    valid: &BitBuffer,
+    prepared: &P,
+    apply: A,
+    ctx: ExecutionCtx,
+) -> (Res<ArrayRef>, u128)
+    requires items { S.count source.now ≡ count_by (λ b. b) valid.now }
+    requires callable { (j : ℕ) (x : S.Item) → j < count_by (λ b. b) valid.now → S.item_at source.now j x → A.pre apply prepared x }
+    ensures dtype { IfOk result.0 (λ a. dtype a ≡ Out.element_type) }
+    ensures len { IfOk result.0 (λ a. len a ≡ length valid.now) }
+    ensures rows { IfOk result.0 (λ a. (j : ℕ) → j < count_by (λ b. b) valid.now → StatesAnswer (S.item_at source.now j) (λ x r. A.post apply prepared.entry x r) Out.states (row a (place valid.now j))) }
+    ensures not_null { IfOk result.0 (λ a. (i : ℕ) → i < length valid.now → IsSome (row a i)) }
+    ensures errors { IfErr result.0 (λ e. e ≡ Fault.Memory) }
+    ensures most { result.1 ≤ count_by (λ b. b) valid.now }
+    ensures least { IfOk result.0 (λ a. count_by (λ b. b) valid.now ≤ result.1) }
+{
+    let rows = valid.len();
+    // The places are taken before the first call.
+    let mut buffer = match Out::with_capacity(rows, ctx) {
+        Ok(buffer) => buffer,
+        Err(fault) => return (Err(fault), 0),
+    };
+    map_filtered_into(
+        source,
+        valid,
+        buffer.slots(),
+        |item: S::Item| -> Out
+            requires { A.pre apply prepared item }
+            ensures { A.post apply prepared.entry item result }
+        { apply(prepared, item) },
+    );
+    (buffer.finish(rows, ctx), source.len() as u128)
+}
+
+/// Writes the answer of `apply` to each item, in order, at the place of the next true bit, and leaves the other places as
+/// they are.
+fn map_filtered_into<S: IndexedSource, T: Drop, F: Fn(S::Item) -> T>(
+    source: &S,
+    valid: &BitBuffer,
+    out: &mut [T],
+    apply: F,
+)
+    requires items { S.count source.now ≡ count_by (λ b. b) valid.now }
+    requires places { length out.old ≡ length valid.now }
+    requires callable { (j : ℕ) (x : S.Item) → j < count_by (λ b. b) valid.now → S.item_at source.now j x → F.pre apply x }
+    ensures { (j : ℕ) (d : T) → j < count_by (λ b. b) valid.now → MapsTo (S.item_at source.now j) (F.post apply) (slice_index_or out.new (place valid.now j) d) }
+{
+    let mut item = 0;
+    for index in valid.set_indices() {
+        out[index] = apply(source.get(item));
+        item += 1;
+    }
+}

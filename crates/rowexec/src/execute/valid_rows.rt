@@ -1,0 +1,143 @@
+// Loops over the rows that are valid, whose callback gives a value.
+ghost use Rattle.std.specs.Prelude.{◌≡◌, ◌<◌, ◌≤◌, ℕ, length, count_by, slice_index_or, true, IfOk, IfErr, IsSome};
+ghost use Rattle.bitlane.specs.Bits.{bit};
+ghost use Rattle.bitlane.specs.Maps.{MapsTo};
+ghost use Rattle.colbase.specs.Arrays.{dtype, len, row};
+ghost use Rattle.rowtypes.specs.Outputs.{StatesAnswer};
+ghost use Rattle.rowtypes.specs.Rows.{each_length};
+
+use bitlane::{BitBuffer, IndexedSource};
+use colbase::{ArrayRef, ExecutionCtx, Fault, Res};
+use rowtypes::{ElementTuple, IndexedElementTuple, OutputBuffer, OutputElement, RowsVisitor};
+use std::marker::PhantomData;
+
+/// The answers of a callback that doesn't fail to the rows that are valid, each at its own row, as a column without nulls
+/// whose other rows hold the default; and how often it was called. The callback is lent the prepared value. Whether an
+/// argument is one value or a column is told before the loop.
+pub(crate) fn execute_owned_infallible_valid_rows<
+    Args: IndexedElementTuple,
+    Out: OutputElement,
+    P: Drop,
+    A: Fn(&P, Args::Elems) -> Out,
+>(
+    columns: &Args::Columns,
+    valid: &BitBuffer,
+    prepared: &P,
+    apply: A,
+    ctx: ExecutionCtx,
+) -> (Res<ArrayRef>, u128)
+    requires lengths { each_length (length valid.now) (Args.lengths columns.now) ≡ true }
+    requires callable { (i : ℕ) (e : Args.Elems) → i < length valid.now → bit valid.now i ≡ true → Args.cells e ≡ Args.shows columns.now i → A.pre apply prepared e }
+    ensures dtype { IfOk result.0 (λ a. dtype a ≡ Out.element_type) }
+    ensures len { IfOk result.0 (λ a. len a ≡ length valid.now) }
+    ensures rows { IfOk result.0 (λ a. (i : ℕ) → i < length valid.now → bit valid.now i ≡ true → StatesAnswer (λ e. Args.cells e ≡ Args.shows columns.now i) (λ e r. A.post apply prepared.entry e r) Out.states (row a i)) }
+    ensures not_null { IfOk result.0 (λ a. (i : ℕ) → i < length valid.now → IsSome (row a i)) }
+    ensures errors { IfErr result.0 (λ e. e ≡ Fault.Memory) }
+    ensures most { result.1 ≤ count_by (λ b. b) valid.now }
+    ensures least { IfOk result.0 (λ a. count_by (λ b. b) valid.now ≤ result.1) }
+{
+    let visitor = BuildValidRows::<Args, Out, P, A> {
+        columns,
+        valid,
+        prepared,
+        apply,
+        output: PhantomData,
+        ctx,
+    };
+    Args::visit_rows(columns, valid.len(), visitor)
+}
+
+/// Builds a column of the answers of a callback to the rows that are valid.
+#[derive(Drop)]
+struct BuildValidRows<'a, Args: ElementTuple, Out, P, A> {
+    columns: &'a Args::Columns,
+    valid: &'a BitBuffer,
+    prepared: &'a P,
+    apply: A,
+    output: PhantomData<Out>,
+    ctx: ExecutionCtx,
+}
+
+impl<
+    'a,
+    Args: ElementTuple,
+    Out: OutputElement,
+    P: Drop,
+    A: Fn(&P, Args::Elems) -> Out,
+> RowsVisitor<Args> for BuildValidRows<'a, Args, Out, P, A> {
+    ghost use Rattle.std.specs.Prelude.{◌≡◌, ◌<◌, ◌≤◌, ℕ, length, count_by, true, IfOk, IfErr, IsSome};
+    ghost use Rattle.bitlane.specs.Bits.{bit};
+    ghost use Rattle.colbase.specs.Arrays.{dtype, len, row};
+    ghost use Rattle.colbase.specs.declared.fault.Fault.TheVariants.{Memory};
+    ghost use Rattle.rowtypes.specs.Outputs.{StatesAnswer};
+
+    type Output = (Res<ArrayRef>, u128);
+
+    ghost rows = { λ s. length s.valid.now };
+
+    ghost may_be = { λ s i e. Args.cells e ≡ Args.shows s.columns.now i };
+
+    ghost ready = { λ s. (i : ℕ) (e : Args.Elems) → i < length s.valid.now → bit s.valid.now i ≡ true → Args.cells e ≡ Args.shows s.columns.now i → A.pre s.apply s.prepared e };
+
+    ghost gives = { λ s r. IfOk r.0 (λ a. dtype a ≡ Out.element_type) × IfOk r.0 (λ a. len a ≡ length s.valid.now) × IfOk r.0 (λ a. (i : ℕ) → i < length s.valid.now → bit s.valid.now i ≡ true → StatesAnswer (λ e. Args.cells e ≡ Args.shows s.columns.now i) (λ e r. A.post s.apply s.prepared e r) Out.states (row a i)) × IfOk r.0 (λ a. (i : ℕ) → i < length s.valid.now → IsSome (row a i)) × IfErr r.0 (λ e. e ≡ Memory) × (r.1 ≤ count_by (λ b. b) s.valid.now) × IfOk r.0 (λ a. count_by (λ b. b) s.valid.now ≤ r.1) };
+
+    fn visit<S: IndexedSource<Item = Args::Elems> + Drop>(
+        self,
+        source: S,
+    ) -> (Res<ArrayRef>, u128) {
+        build_valid_rows::<Out, P, S, A>(&source, self.valid, self.prepared, self.apply, self.ctx)
+    }
+}
+
+/// The answers to the items of a source at the valid rows, as a column without nulls, and how often the callback was called.
+fn build_valid_rows<Out: OutputElement, P: Drop, S: IndexedSource, A: Fn(&P, S::Item) -> Out>(
+    source: &S,
+    valid: &BitBuffer,
+    prepared: &P,
+    apply: A,
+    ctx: ExecutionCtx,
+) -> (Res<ArrayRef>, u128)
+    requires items { S.count source.now ≡ length valid.now }
+    requires callable { (i : ℕ) (x : S.Item) → i < length valid.now → bit valid.now i ≡ true → S.item_at source.now i x → A.pre apply prepared x }
+    ensures dtype { IfOk result.0 (λ a. dtype a ≡ Out.element_type) }
+    ensures len { IfOk result.0 (λ a. len a ≡ length valid.now) }
+    ensures rows { IfOk result.0 (λ a. (i : ℕ) → i < length valid.now → bit valid.now i ≡ true → StatesAnswer (S.item_at source.now i) (λ x r. A.post apply prepared.entry x r) Out.states (row a i)) }
+    ensures not_null { IfOk result.0 (λ a. (i : ℕ) → i < length valid.now → IsSome (row a i)) }
+    ensures errors { IfErr result.0 (λ e. e ≡ Fault.Memory) }
+    ensures most { result.1 ≤ count_by (λ b. b) valid.now }
+    ensures least { IfOk result.0 (λ a. count_by (λ b. b) valid.now ≤ result.1) }
+{
+    let rows = valid.len();
+    // The places are taken before the first call.
+    let mut buffer = match Out::with_capacity(rows, ctx) {
+        Ok(buffer) => buffer,
+        Err(fault) => return (Err(fault), 0),
+    };
+    map_valid_into(
+        source,
+        valid,
+        buffer.slots(),
+        |item: S::Item| -> Out
+            requires { A.pre apply prepared item }
+            ensures { A.post apply prepared.entry item result }
+        { apply(prepared, item) },
+    );
+    (buffer.finish(rows, ctx), valid.true_count() as u128)
+}
+
+/// Writes the answer of `apply` to each item at a true bit at the item's index, and leaves the other places as they are.
+fn map_valid_into<S: IndexedSource, T: Drop, F: Fn(S::Item) -> T>(
+    source: &S,
+    valid: &BitBuffer,
+    out: &mut [T],
+    apply: F,
+)
+    requires items { S.count source.now ≡ length valid.now }
+    requires places { length out.old ≡ length valid.now }
+    requires callable { (i : ℕ) (x : S.Item) → i < length valid.now → bit valid.now i ≡ true → S.item_at source.now i x → F.pre apply x }
+    ensures { (i : ℕ) (d : T) → i < length valid.now → bit valid.now i ≡ true → MapsTo (S.item_at source.now i) (F.post apply) (slice_index_or out.new i d) }
+{
+    for index in valid.set_indices() {
+        out[index] = apply(source.get(index));
+    }
+}

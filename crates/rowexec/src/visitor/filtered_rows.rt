@@ -1,0 +1,87 @@
+ghost use Rattle.std.specs.Prelude.{◌≡◌};
+ghost use Rattle.rowtypes.specs.Rows.{ReadsKnown};
+
+use super::execute::known_values;
+use crate::execute::execute_owned_infallible_filtered;
+use crate::visitor::Visited;
+use bitlane::BitBuffer;
+use colbase::{ArrayRef, DType, ExecutionCtx, Fault, Res};
+use rowplan::{RowSpec, RowVisitor};
+use rowtypes::{IndexedElementTuple, OutputElement};
+use std::alloc::AllocError;
+
+/// Runs all rows of columns that were filtered to the rows at which no argument is null, and writes each result at its
+/// original row.
+#[derive(Drop)]
+pub(crate) struct ExecuteFilteredRows<'a, F: RowSpec> {
+    pub options: &'a F::Options,
+    pub types: &'a [DType],
+    /// As many rows each as `valid` has true values.
+    pub columns: &'a [ArrayRef],
+    /// True at the original rows that the columns were filtered to.
+    pub valid: &'a BitBuffer,
+    pub label: Option<DType>,
+    pub ctx: ExecutionCtx,
+}
+
+impl<'a, F: RowSpec> RowVisitor<F> for ExecuteFilteredRows<'a, F> {
+    ghost use Rattle.std.specs.Prelude.{◌≡◌, MatchResult, option_map};
+    ghost use Rattle.colbase.specs.Keep.{trues};
+    ghost use Rattle.colbase.specs.LogicalTypeOf.{logical_type};
+    ghost use Rattle.colbase.specs.declared.fault.Fault.TheVariants.{Memory};
+    ghost use Rattle.rowtypes.specs.Rows.{DecodeFails, logical_types};
+    ghost use Rattle.rowexec.specs.Visits.{FilteredColumn, IsReadyFiltered, RanRows};
+
+    type VisitResult = Visited<ArrayRef>;
+
+    ghost options = { λ s. s.options.now };
+
+    ghost types = { λ s. logical_types s.types.now };
+
+    ghost label = { λ s. option_map logical_type s.label };
+
+    ghost ready = { λ s. IsReadyFiltered (F.fits s.options.now (logical_types s.types.now)) (logical_types s.types.now) s.columns.now s.valid.now };
+
+    ghost gives = { λ s r. MatchResult r
+        (λ v. RanRows (trues s.valid.now)
+        (FilteredColumn (F.meaning s.options.now (logical_types s.types.now)) F.Evidence.neutral (F.output s.options.now (logical_types s.types.now)).storage s.columns.now s.valid.now)
+        (DecodeFails (F.reads s.options.now (logical_types s.types.now)) 0 s.columns.now)
+        v.answer v.prepares v.steps)
+        (λ e. e ≡ Memory) };
+
+    fn with_output_dtype(self, dtype: DType) -> ExecuteFilteredRows<'a, F> {
+        ExecuteFilteredRows {
+            options: self.options,
+            types: self.types,
+            columns: self.columns,
+            valid: self.valid,
+            label: Some(dtype),
+            ctx: self.ctx,
+        }
+    }
+
+    fn visit_prepared<
+        Args: IndexedElementTuple,
+        Out: OutputElement,
+        P: Drop,
+        R: FnOnce(Args::ConstElems) -> Result<P, AllocError>,
+        A: Fn(&P, Args::Elems) -> Out,
+    >(self, prepare: R, apply: A) -> Res<Visited<ArrayRef>> {
+        let decoded = match Args::decode(self.columns, self.ctx) {
+            Ok(decoded) => decoded,
+            Err(fault) => return Ok(Visited::before_the_rows(Err(fault), 0)),
+        };
+        let prepared = match prepare(known_values::<Args>(&decoded)) {
+            Ok(prepared) => prepared,
+            Err(AllocError) => return Ok(Visited::before_the_rows(Err(Fault::Memory), 1)),
+        };
+        let (answer, steps) = execute_owned_infallible_filtered::<Args, Out, P, A>(
+            &decoded, self.valid, &prepared, apply, self.ctx,
+        );
+        Ok(Visited {
+            answer,
+            prepares: 1,
+            steps,
+        })
+    }
+}

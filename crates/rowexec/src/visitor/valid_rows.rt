@@ -1,0 +1,91 @@
+ghost use Rattle.std.specs.Prelude.{◌≡◌};
+ghost use Rattle.rowtypes.specs.Rows.{ReadsKnown};
+
+use super::execute::known_values;
+use crate::execute::execute_owned_infallible_valid_rows;
+use crate::visitor::Visited;
+use bitlane::BitBuffer;
+use colbase::{ArrayRef, DType, ExecutionCtx, Fault, Res};
+use rowplan::{RowSpec, RowVisitor};
+use rowtypes::{IndexedElementTuple, OutputElement};
+use std::alloc::AllocError;
+
+/// Runs the rows at which no argument is null, on the columns as they are. Declines where some column can't be decoded with
+/// its nulls.
+#[derive(Drop)]
+pub(crate) struct ExecuteValidRows<'a, F: RowSpec> {
+    pub options: &'a F::Options,
+    pub types: &'a [DType],
+    pub columns: &'a [ArrayRef],
+    /// True at the rows that run.
+    pub valid: &'a BitBuffer,
+    pub label: Option<DType>,
+    pub ctx: ExecutionCtx,
+}
+
+impl<'a, F: RowSpec> RowVisitor<F> for ExecuteValidRows<'a, F> {
+    ghost use Rattle.std.specs.Prelude.{◌≡◌, length, MatchResult, option_map};
+    ghost use Rattle.colbase.specs.Keep.{trues};
+    ghost use Rattle.colbase.specs.LogicalTypeOf.{logical_type};
+    ghost use Rattle.colbase.specs.declared.fault.Fault.TheVariants.{Memory};
+    ghost use Rattle.rowtypes.specs.Rows.{DecodeFails, logical_types};
+    ghost use Rattle.rowexec.specs.Visits.{IsReadyAt, RanOrDeclined, ValidColumn};
+
+    type VisitResult = Visited<Option<ArrayRef>>;
+
+    ghost options = { λ s. s.options.now };
+
+    ghost types = { λ s. logical_types s.types.now };
+
+    ghost label = { λ s. option_map logical_type s.label };
+
+    ghost ready = { λ s. IsReadyAt (F.fits s.options.now (logical_types s.types.now)) (logical_types s.types.now) s.columns.now s.valid.now };
+
+    ghost gives = { λ s r. MatchResult r
+        (λ v. RanOrDeclined (trues s.valid.now)
+        (ValidColumn (F.meaning s.options.now (logical_types s.types.now)) F.Evidence.neutral (F.output s.options.now (logical_types s.types.now)).storage s.columns.now (length s.valid.now))
+        (DecodeFails (F.reads s.options.now (logical_types s.types.now)) 0 s.columns.now)
+        v.answer v.prepares v.steps)
+        (λ e. e ≡ Memory) };
+
+    fn with_output_dtype(self, dtype: DType) -> ExecuteValidRows<'a, F> {
+        ExecuteValidRows {
+            options: self.options,
+            types: self.types,
+            columns: self.columns,
+            valid: self.valid,
+            label: Some(dtype),
+            ctx: self.ctx,
+        }
+    }
+
+    fn visit_prepared<
+        Args: IndexedElementTuple,
+        Out: OutputElement,
+        P: Drop,
+        R: FnOnce(Args::ConstElems) -> Result<P, AllocError>,
+        A: Fn(&P, Args::Elems) -> Out,
+    >(self, prepare: R, apply: A) -> Res<Visited<Option<ArrayRef>>> {
+        let decoded = match Args::decode_null_tolerant(self.columns, self.ctx) {
+            Ok(Some(decoded)) => decoded,
+            Ok(None) => return Ok(Visited::before_the_rows(Ok(None), 0)),
+            Err(fault) => return Ok(Visited::before_the_rows(Err(fault), 0)),
+        };
+        let prepared = match prepare(known_values::<Args>(&decoded)) {
+            Ok(prepared) => prepared,
+            Err(AllocError) => return Ok(Visited::before_the_rows(Err(Fault::Memory), 1)),
+        };
+        let (answer, steps) = execute_owned_infallible_valid_rows::<Args, Out, P, A>(
+            &decoded, self.valid, &prepared, apply, self.ctx,
+        );
+        let answer = match answer {
+            Ok(values) => Ok(Some(values)),
+            Err(fault) => Err(fault),
+        };
+        Ok(Visited {
+            answer,
+            prepares: 1,
+            steps,
+        })
+    }
+}
