@@ -2,6 +2,7 @@ pub mod Causes
 pub mod Lowest
 pub mod Payload
 pub mod Types
+pub mod Timestamps
 pub mod Bits
 pub mod Results
 pub mod Numbers

@@ -7,6 +7,7 @@ use Rattle.colbase.specs.declared.dtype.PType.{PType}
 use Rattle.colbase.specs.declared.dtype.Nullability.{Nullability}
 use Rattle.colbase.specs.declared.dtype.Nullability.TheVariants.{Nullable}
 use Rattle.colbase.specs.LogicalType as t
+use Rattle.colbase.specs.Fits.{storage_type}
 use Rattle.colbase.specs.Parts.{bits_of, values_of}
 use Rattle.colbase.specs.Layouts.{is_constant}
 use Rattle.colbase.specs.declared.binary.BinaryKind.TheVariants.{Utf8, Binary}
@@ -78,21 +79,21 @@ same_kind k.U32 k.U32 h = refl
 same_kind k.U64 k.U64 h = refl
 same_kind _ _ h = absurd (cc)
 
-integer_made_nullable : (p : PType) (x : t.LogicalType) (n : Nullability) → is_integer p (t.with_nullability x n) ≡ true → is_integer p x ≡ true
-integer_made_nullable p (t.primitive q m) n h = h
-integer_made_nullable p (t.bool m) n h = h
-integer_made_nullable p t.null n h = h
-integer_made_nullable p (t.utf8 m) n h = h
-integer_made_nullable p (t.binary m) n h = h
-integer_made_nullable p (t.list x m) n h = h
-integer_made_nullable p (t.fixed_size_list x w m) n h = h
-integer_made_nullable p (t.extension name unit z x) n h = h
+pub integer-made-nullable : (p : PType) (x : t.LogicalType) (n : Nullability) → is_integer p (t.with_nullability x n) ≡ true → is_integer p x ≡ true
+integer-made-nullable p (t.primitive q m) n h = h
+integer-made-nullable p (t.bool m) n h = h
+integer-made-nullable p t.null n h = h
+integer-made-nullable p (t.utf8 m) n h = h
+integer-made-nullable p (t.binary m) n h = h
+integer-made-nullable p (t.list x m) n h = h
+integer-made-nullable p (t.fixed_size_list x w m) n h = h
+integer-made-nullable p (t.extension name unit z x) n h = h
 
 integer_below : (p : PType) (x : t.LogicalType) (m : Validity) → is_integer p (masked_type x m) ≡ true → is_integer p x ≡ true
 integer_below p x v.NonNullable h = h
-integer_below p x v.AllValid h = integer_made_nullable p x Nullable h
-integer_below p x v.AllInvalid h = integer_made_nullable p x Nullable h
-integer_below p x (v.Array bits) h = integer_made_nullable p x Nullable h
+integer_below p x v.AllValid h = integer-made-nullable p x Nullable h
+integer_below p x v.AllInvalid h = integer-made-nullable p x Nullable h
+integer_below p x (v.Array bits) h = integer-made-nullable p x Nullable h
 
 pub integer-unmasked : (p : PType) (a : Array) → is_integer p (dtype a) ≡ true → is_integer p (dtype (unmasked a)) ≡ true
 integer-unmasked p (masked c m) h = integer-unmasked p c (integer_below p (dtype c) m h)
@@ -127,3 +128,14 @@ constant-integer p (constant s n) h e = refl
 constant-integer p (masked (constant s n) m) h e = refl
 constant-integer p (extension x c) h e = absurd (cc)
 constant-integer p _ h e = absurd (cc)
+
+-- an integer type is what it stores
+pub integer-stored : (p : PType) (x : t.LogicalType) → is_integer p x ≡ true → is_integer p (storage_type x) ≡ true
+integer-stored p (t.primitive q n) h = h
+integer-stored p t.null h = absurd (cc)
+integer-stored p (t.bool n) h = absurd (cc)
+integer-stored p (t.utf8 n) h = absurd (cc)
+integer-stored p (t.binary n) h = absurd (cc)
+integer-stored p (t.list x n) h = absurd (cc)
+integer-stored p (t.fixed_size_list x w n) h = absurd (cc)
+integer-stored p (t.extension name unit z x) h = absurd (cc)

@@ -1,7 +1,9 @@
 -- Which cells an element reads, and why a column can't be decoded.
-use Rattle.std.specs.Prelude.{◌≡◌, ◌≤◌, Bool, IsTrue, true, false, ⊤, ◌⊎◌, Some, Result, Ok, Err, if◌then◌else◌, pos}
+use Rattle.std.specs.Prelude.{◌≡◌, ◌≤◌, ℕ, Bool, IsTrue, true, false, ◌&&◌, ⊤, ◌⊎◌, List, Option, Some, None, Result, Ok, Err, if◌then◌else◌, pos, bytes_eq, codes}
 use Rattle.colbase.specs.declared.dtype.PType.{PType}
 use Rattle.colbase.specs.declared.dtype.PType.TheVariants as p
+use Rattle.colbase.specs.declared.dtype.TimeUnit.{TimeUnit}
+use Rattle.colbase.specs.declared.dtype.TimeUnit.TheVariants.{Days}
 use Rattle.colbase.specs.declared.fault.Fault.{Fault}
 use Rattle.colbase.specs.declared.fault.Fault.TheVariants.{Memory, Decode, Dtype}
 use Rattle.colbase.specs.Cell.{Cell, truth, number}
@@ -60,3 +62,18 @@ is_integer p _ = false
 abbrev pub is_bool : t.LogicalType → Bool
 is_bool (t.bool n) = true
 is_bool _ = false
+
+-- a unit that is there and isn't days
+abbrev pub is_time_unit : Option TimeUnit → Bool
+is_time_unit None = false
+is_time_unit (Some Days) = false
+is_time_unit (Some _) = true
+
+-- the name of the timestamp types
+abbrev pub timestamp_name : List ℕ
+timestamp_name = codes "vortex.timestamp"
+
+-- a timestamp type whose unit isn't days: in any zone, over numbers of 64 bits, nullable or not
+abbrev pub is_timestamp : t.LogicalType → Bool
+is_timestamp (t.extension name unit time_zone storage) = bytes_eq name timestamp_name && (is_time_unit unit && is_integer p.I64 storage)
+is_timestamp _ = false

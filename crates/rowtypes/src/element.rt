@@ -6,9 +6,11 @@ mod boolean;
 mod decimal_scale;
 mod integer;
 mod signed;
+mod timestamp_row;
 mod unsigned;
 
 pub use decimal_scale::DecimalScale;
+pub use timestamp_row::TimestampRow;
 
 /// How an argument of one element type is read: which types it accepts, what it decodes a column to, and what it
 /// gives at each row.

@@ -23,7 +23,7 @@ pub use arg_column::ArgColumn;
 pub use batch::batch_const;
 pub use bitlane::{FailureEvidence, NoFailure};
 pub use both::Both;
-pub use element::{DecimalScale, InputElement};
+pub use element::{DecimalScale, InputElement, TimestampRow};
 pub use fill_default::FillDefault;
 pub use output::{ColumnValue, OutputBuffer, OutputElement, OutputSlots, build_from};
 pub use rows_visitor::RowsVisitor;

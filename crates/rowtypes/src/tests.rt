@@ -20,6 +20,7 @@ mod elements;
 mod generic;
 mod outputs;
 mod rows;
+mod timestamps;
 mod tuples;
 
 use columns::true_and_false;

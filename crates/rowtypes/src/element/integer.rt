@@ -3,7 +3,7 @@ ghost use Rattle.std.specs.Prelude.{◌≡◌, ◌<◌, ℕ, IsTrue, length, pos
 ghost use Rattle.colbase.specs.Cell.{Cell, number};
 ghost use Rattle.colbase.specs.Arrays.{dtype, len, MustRead, constant_cell as cell_of_constant};
 ghost use Rattle.colbase.specs.Layouts.{is_constant};
-ghost use Rattle.colbase.specs.Fits.{in_range};
+ghost use Rattle.colbase.specs.Fits.{in_range, storage_type};
 ghost use Rattle.colbase.specs.Values.{number_at, count};
 ghost use Rattle.rowtypes.specs.Elements.{shown_number};
 ghost use Rattle.rowtypes.specs.Reading.{is_integer, IsNumberOf};
@@ -46,8 +46,8 @@ pub(crate) fn decode_numbers<T: ElementInt>(array: &ArrayRef, ctx: ExecutionCtx)
     Ok(values)
 }
 
-// Says that each value is in the type's range. The loop has no effect, and none is left in the built code.
-fn checks<T: ElementInt>(values: &[T])
+/// Says that each value is in the type's range. The loop has no effect, and none is left in the built code.
+pub(crate) fn checks<T: ElementInt>(values: &[T])
     ensures { (i : ℕ) → i < length values.now → IsTrue (in_range T.ptype (number_at (T.stored values.now) i)) }
 {
     for value in values {
@@ -55,7 +55,8 @@ fn checks<T: ElementInt>(values: &[T])
     }
 }
 
-fn stored_numbers<T: ElementInt>(array: &ArrayRef, ctx: ExecutionCtx) -> Res<Buffer<T>>
+/// The numbers of [`decode_numbers`], with nothing said of their range.
+pub(crate) fn stored_numbers<T: ElementInt>(array: &ArrayRef, ctx: ExecutionCtx) -> Res<Buffer<T>>
     requires { is_integer T.ptype (dtype array.now) ≡ true }
     ensures len { IfOk result (λ c. length c ≡ len array.now) }
     ensures same { IfOk result (λ c. (i : ℕ) → i < len array.now → number (number_at (T.stored c) i) ≡ shown_number array.now i) }
@@ -68,9 +69,9 @@ fn stored_numbers<T: ElementInt>(array: &ArrayRef, ctx: ExecutionCtx) -> Res<Buf
     }
 }
 
-// The value of a constant, and zero for a null.
-fn stored_number<T: ElementInt>(array: &ArrayRef) -> T
-    requires accepted { is_integer T.ptype (dtype array.now) ≡ true }
+/// The value of a constant, and zero for a null. The constant may be of an extension type.
+pub(crate) fn stored_number<T: ElementInt>(array: &ArrayRef) -> T
+    requires accepted { is_integer T.ptype (storage_type (dtype array.now)) ≡ true }
     requires constant { is_constant array.now ≡ true }
     ensures { (i : ℕ) → stored_or (number (pos 0)) array.now i ≡ number (T.number result) }
 {

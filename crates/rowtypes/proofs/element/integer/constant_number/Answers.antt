@@ -2,12 +2,14 @@ use Rattle.std.proofs.Common.{◌∙◌, ap, sym}
 use Rattle.std.specs.Prelude.{pos}
 use Rattle.colbase.specs.Cell.{number}
 use Rattle.rowtypes.specs.Shown.{stored_or}
-use Rattle.rowtypes.proofs.Types.{integer-unmasked, constant-integer}
+use Rattle.colbase.specs.Arrays.{dtype}
+use Rattle.rowtypes.specs.Unmasked.{unmasked}
+use Rattle.rowtypes.proofs.Types.{integer-unmasked, integer-stored, constant-integer}
 use Rattle.rowtypes.proofs.Payload.{constant-shown}
 use Rattle.rowtypes.proofs.element.integer.constant_number.Goals as goal
 
 pub stored_number-requires-clause-accepted : goal.stored_number-requires-clause-accepted
-stored_number-requires-clause-accepted g c = rw c.below_masks.ensures (integer-unmasked g.T.NativeInt.ptype c.args.array.now c.requires.accepted)
+stored_number-requires-clause-accepted g c = rw c.below_masks.ensures (integer-stored g.T.NativeInt.ptype (dtype (unmasked c.args.array.now)) (integer-unmasked g.T.NativeInt.ptype c.args.array.now c.requires.accepted))
 
 pub stored_number-requires-clause-constant : goal.stored_number-requires-clause-constant
 stored_number-requires-clause-constant g c = rw c.below_masks.ensures (constant-integer g.T.NativeInt.ptype c.args.array.now c.requires.accepted c.requires.constant)

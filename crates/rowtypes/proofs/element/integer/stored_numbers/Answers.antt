@@ -2,16 +2,17 @@ use Rattle.std.proofs.Common.{rules, ◌≡◌, ◌∙◌, ℕ, ◌<◌, ap, sym
 use Rattle.std.specs.Prelude.{replicate, slice_get}
 use Rattle.colbase.specs.Cell.{number}
 use Rattle.colbase.specs.Values.{number_at}
-use Rattle.colbase.specs.Arrays.{len}
+use Rattle.colbase.specs.Arrays.{dtype, len}
 use Rattle.colbase.specs.Parts.{values_of}
 use Rattle.rowtypes.specs.Elements.{shown_number}
 use Rattle.rowtypes.proofs.Numbers.{numbers-count, numbers-shown, number-shown, get-replicate}
 use Rattle.rowtypes.proofs.Results.{ok-then}
-use Rattle.rowtypes.proofs.Types.{integer-unmasked, integer-layouts}
+use Rattle.rowtypes.specs.Unmasked.{unmasked}
+use Rattle.rowtypes.proofs.Types.{integer-unmasked, integer-stored, integer-layouts}
 use Rattle.rowtypes.proofs.element.integer.stored_numbers.Goals as goal
 
 pub stored_number-requires-clause-accepted : goal.stored_number-requires-clause-accepted
-stored_number-requires-clause-accepted g c = rw c.below_masks-stored.ensures (integer-unmasked g.T.NativeInt.ptype c.args.array.now c.requires)
+stored_number-requires-clause-accepted g c = rw c.below_masks-stored.ensures (integer-stored g.T.NativeInt.ptype (dtype (unmasked c.args.array.now)) (integer-unmasked g.T.NativeInt.ptype c.args.array.now c.requires))
 
 pub stored_number-requires-clause-constant : goal.stored_number-requires-clause-constant
 stored_number-requires-clause-constant g c =
