@@ -1,11 +1,9 @@
 -- Arrays of timestamps: below its masks one is an extension of numbers of 64 bits, or a constant.
-use Rattle.std.proofs.Common.{◌≡◌, ◌∙◌, ℕ, ℤ, ◌<◌, Bool, true, false, ◌&&◌, Option, Some, None, refl, ap, sym, subst}
+use Rattle.std.proofs.Common.{◌≡◌, ◌∙◌, ℕ, Bool, true, false, ◌&&◌, Some, None, refl, ap, sym, subst}
 use Rattle.std.specs.Prelude.{pos, IsSome, bytes_eq}
 use Rattle.colbase.specs.declared.validity.Validity.{Validity}
 use Rattle.colbase.specs.declared.validity.Validity.TheVariants as v
-use Rattle.colbase.specs.declared.dtype.PType.{PType}
 use Rattle.colbase.specs.declared.dtype.PType.TheVariants as k
-use Rattle.colbase.specs.declared.dtype.TimeUnit.{TimeUnit}
 use Rattle.colbase.specs.declared.dtype.Nullability.{Nullability}
 use Rattle.colbase.specs.declared.dtype.Nullability.TheVariants.{Nullable}
 use Rattle.colbase.specs.declared.binary.BinaryKind.TheVariants.{Utf8, Binary}
@@ -15,8 +13,8 @@ use Rattle.colbase.specs.Cell.{Cell, number}
 use Rattle.colbase.specs.Fits.{storage_type}
 use Rattle.colbase.specs.Parts.{storage_of}
 use Rattle.colbase.specs.Layouts.{is_constant}
-use Rattle.colbase.specs.Arrays.{Array, constant, masked, extension, primitive, bool, varbin, varbinview, list, listview, fixed_size_list, Sound, len, dtype, stored, masked_type, constant_cell}
-use Rattle.rowtypes.specs.Shown.{stored_or, cell_or}
+use Rattle.colbase.specs.Arrays.{Array, constant, masked, extension, primitive, bool, varbin, varbinview, list, listview, fixed_size_list, Sound, len, dtype, masked_type, constant_cell}
+use Rattle.rowtypes.specs.Shown.{stored_or}
 use Rattle.rowtypes.specs.Elements.{shown_number}
 use Rattle.rowtypes.specs.Unmasked.{unmasked}
 use Rattle.rowtypes.specs.Reading.{is_integer, is_time_unit, is_timestamp, timestamp_name}
