@@ -1,13 +1,12 @@
 -- The rows of a batch that run, by their marks.
 use Rattle.std.proofs.Common.{◌≡◌, ◌∙◌, ℕ, zero, suc, ◌<◌, ◌≤◌, Bool, true, false, List, [], ◌∷◌, length, Option, None, Some, arith, inr, refl, sym}
-use Rattle.std.specs.Prelude.{count_by, is_some, IsSome}
+use Rattle.std.specs.Prelude.{is_some, IsSome}
 use Rattle.bitlane.specs.Bits.{bit}
 use Rattle.colbase.specs.Arrays.{Array, row}
 use Rattle.colbase.specs.Cell.{Cell}
 use Rattle.colbase.specs.Keep.{trues}
 use Rattle.colbase.specs.Valid.{valid_at}
 use Rattle.colbase.specs.declared.validity.Validity.{Validity}
-use Rattle.colbase.proofs.KeptRows.{trues-count_by}
 use Rattle.rowplan.specs.declared.batch_plan.RowPolicy.{RowPolicy}
 use Rattle.rowexec.specs.Counts.{one_row, runs_valid_only}
 use Rattle.rowexec.specs.Rows.{EachHasRows, full_cells, with_cell}
@@ -16,28 +15,24 @@ use Rattle.rowexec.specs.Visits.{FullAt}
 use Rattle.rowexec.specs.declared.batch.selection.Selection.{Selection}
 use Rattle.rowexec.specs.declared.batch.selection.Selection.TheVariants as s
 
-trues_within : (bits : List Bool) → trues bits ≤ length bits
-trues_within [] = omega arith
-trues_within (true ∷ bits) = omega (arith, trues_within bits)
-trues_within (false ∷ bits) = omega (arith, trues_within bits)
+none_marked : (bits : List Bool) → trues bits ≡ 0 → (i : ℕ) → i < length bits → bit bits i ≡ false
+none_marked [] e i h = absurd (omega arith)
+none_marked (true ∷ bits) e i h = absurd (omega (arith, e))
+none_marked (false ∷ bits) e zero h = refl
+none_marked (false ∷ bits) e (suc i) h = none_marked bits e i (omega arith)
 
-each_marked : (bits : List Bool) → trues bits ≡ length bits → (i : ℕ) → i < length bits → bit bits i ≡ true
-each_marked [] e i h = absurd (omega arith)
-each_marked (true ∷ bits) e zero h = refl
-each_marked (true ∷ bits) e (suc i) h = each_marked bits (omega arith) i (omega arith)
-each_marked (false ∷ bits) e i h = absurd (omega (arith, trues_within bits))
-
--- as many values are true as there are: each is
-pub all_marked : (bits : List Bool) (count : ℕ) → count ≡ count_by (λ b. b) bits → count ≡ length bits → (i : ℕ) → i < length bits → bit bits i ≡ true
-all_marked bits count c e = each_marked bits (sym (trues-count_by bits) ∙ sym c ∙ e)
-
--- some value is true: the count isn't zero
-pub some_marked : (bits : List Bool) (count : ℕ) → count ≡ count_by (λ b. b) bits → (count ≡ 0 → ⊥) → 0 < trues bits
-some_marked bits count c e = few count (trues bits) (c ∙ trues-count_by bits) e
+-- some value is true, where not each is false
+pub some_marked : (bits : List Bool) → (((i : ℕ) → i < length bits → bit bits i ≡ false) → ⊥) → 0 < trues bits
+some_marked bits q = few (trues bits) refl
   where
-    few : (m n : ℕ) → m ≡ n → (m ≡ 0 → ⊥) → 0 < n
-    few m zero p q = absurd (q p)
-    few m (suc n) p q = omega arith
+    few : (n : ℕ) → trues bits ≡ n → 0 < trues bits
+    few zero e = absurd (q (none_marked bits e))
+    few (suc n) e = omega (arith, e)
+
+-- there is a value, where not each is true
+pub some_mark : (bits : List Bool) → (((i : ℕ) → i < length bits → bit bits i ≡ true) → ⊥) → 0 < length bits
+some_mark [] q = absurd (q (λ i h. absurd (omega arith)))
+some_mark (b ∷ bits) q = omega arith
 
 full_here : (o : Option Cell) (rest : Option (List Cell)) → is_some (with_cell o rest) ≡ true → (IsSome o) × (is_some rest ≡ true)
 full_here (Some c) (Some cells) h = (refl, refl)

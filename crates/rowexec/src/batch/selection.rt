@@ -1,5 +1,6 @@
 // Which rows of a batch run.
-ghost use Rattle.std.specs.Prelude.{◌≡◌, ◌<◌, ℕ, is_some, length};
+ghost use Rattle.std.specs.Prelude.{◌≡◌, ◌<◌, ℕ, false, is_some, length, true};
+ghost use Rattle.bitlane.specs.Bits.{bit};
 ghost use Rattle.colbase.specs.declared.validity.Validity.TheVariants.{Array};
 ghost use Rattle.colbase.specs.Valid.{Covers, valid_at};
 ghost use Rattle.rowexec.specs.Rows.{EachHasRows, full_cells};
@@ -60,12 +61,24 @@ fn select_valid(full: &Validity, row_count: usize) -> Selection
 fn select_marked(bits: &BitBuffer) -> Selection
     ensures { SelectedValid (Array bits.now) (length bits.now) result }
 {
-    let count = bits.true_count();
-    if count == bits.len() {
+    if is_each(bits, true) {
         return Selection::All;
     }
-    if count == 0 {
+    if is_each(bits, false) {
         return Selection::Nothing;
     }
     Selection::Valid(bits.share())
+}
+
+// Whether each mark is this one. It looks no further than at the first other.
+fn is_each(bits: &BitBuffer, mark: bool) -> bool
+    ensures each { result ≡ true → (i : ℕ) → i < length bits.now → bit bits.now i ≡ mark }
+    ensures other { result ≡ false → ((i : ℕ) → i < length bits.now → bit bits.now i ≡ mark) → ⊥ }
+{
+    for index in 0..bits.len() {
+        if bits.value(index) != mark {
+            return false;
+        }
+    }
+    true
 }

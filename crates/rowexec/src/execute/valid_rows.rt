@@ -113,7 +113,7 @@ fn build_valid_rows<Out: OutputElement, P: Drop, S: IndexedSource, A: Fn(&P, S::
         Ok(buffer) => buffer,
         Err(fault) => return (Err(fault), 0),
     };
-    map_valid_into(
+    let calls = map_valid_into(
         source,
         valid,
         buffer.slots(),
@@ -122,22 +122,27 @@ fn build_valid_rows<Out: OutputElement, P: Drop, S: IndexedSource, A: Fn(&P, S::
             ensures { A.post apply prepared.entry item result }
         { apply(prepared, item) },
     );
-    (buffer.finish(rows, ctx), valid.true_count() as u128)
+    (buffer.finish(rows, ctx), calls as u128)
 }
 
-/// Writes the answer of `apply` to each item at a true bit at the item's index, and leaves the other places as they are.
+/// Writes the answer of `apply` to each item at a true bit at the item's index, leaves the other places as they are, and tells
+/// how often `apply` was called.
 fn map_valid_into<S: IndexedSource, T: Drop, F: Fn(S::Item) -> T>(
     source: &S,
     valid: &BitBuffer,
     out: &mut [T],
     apply: F,
-)
+) -> usize
     requires items { S.count source.now ≡ length valid.now }
     requires places { length out.old ≡ length valid.now }
     requires callable { (i : ℕ) (x : S.Item) → i < length valid.now → bit valid.now i ≡ true → S.item_at source.now i x → F.pre apply x }
-    ensures { (i : ℕ) (d : T) → i < length valid.now → bit valid.now i ≡ true → MapsTo (S.item_at source.now i) (F.post apply) (slice_index_or out.new i d) }
+    ensures calls { result ≡ count_by (λ b. b) valid.now }
+    ensures items { (i : ℕ) (d : T) → i < length valid.now → bit valid.now i ≡ true → MapsTo (S.item_at source.now i) (F.post apply) (slice_index_or out.new i d) }
 {
+    let mut calls = 0;
     for index in valid.set_indices() {
         out[index] = apply(source.get(index));
+        calls += 1;
     }
+    calls
 }
