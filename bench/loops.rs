@@ -136,6 +136,83 @@ fn plain_beside_a_constant(rows: usize, rounds: usize) -> i64 {
     total
 }
 
+/// A number from 0 to 9 that is pseudorandom in the row, as in `rowbench`: the mix of `splitmix64`.
+fn pseudorandom_digit(row: usize) -> u64 {
+    let start = (row as u64).wrapping_mul(0x9E37_79B9_7F4A_7C15);
+    let first = (start ^ (start >> 30)).wrapping_mul(0xBF58_476D_1CE4_E5B9);
+    let second = (first ^ (first >> 27)).wrapping_mul(0x94D0_49BB_1331_11EB);
+    (second ^ (second >> 31)) % 10
+}
+
+/// Two columns of numbers, the first of which is null at pseudorandom rows. The valid rows are marked, and are the set bits of words.
+struct Scattered {
+    first: Vec<i64>,
+    second: Vec<i64>,
+    valid: Vec<bool>,
+    words: Vec<u64>,
+}
+
+impl Scattered {
+    fn new(rows: usize, nulls: u64) -> Scattered {
+        let valid: Vec<bool> = (0..rows).map(|i| pseudorandom_digit(i) >= nulls).collect();
+        let word = |marks: &[bool]| marks.iter().rev().fold(0, |word, mark| word << 1 | *mark as u64);
+        Scattered {
+            first: (0..rows as i64).collect(),
+            second: (0..rows as i64).collect(),
+            words: valid.chunks(64).map(word).collect(),
+            valid,
+        }
+    }
+
+    fn full_rows(&self) -> usize {
+        self.valid.iter().filter(|mark| **mark).count()
+    }
+}
+
+/// The sums at the marked rows, among zeros.
+#[inline(never)]
+fn plain_sums_by_marks(batch: &Scattered) -> Vec<i64> {
+    let rows = batch.valid.len();
+    let (first, second) = (&batch.first[..rows], &batch.second[..rows]);
+    let mut sums = vec![0; rows];
+    for (i, mark) in batch.valid.iter().enumerate() {
+        if *mark {
+            sums[i] = first[i].wrapping_add(second[i]);
+        }
+    }
+    sums
+}
+
+/// The sums at the rows whose bits are set, among zeros.
+#[inline(never)]
+fn plain_sums_by_words(batch: &Scattered) -> Vec<i64> {
+    let rows = batch.valid.len();
+    let (first, second) = (&batch.first[..rows], &batch.second[..rows]);
+    let mut sums = vec![0; rows];
+    for (i, word) in batch.words.iter().enumerate() {
+        let mut rest = *word;
+        while rest != 0 {
+            let row = i * 64 + rest.trailing_zeros() as usize;
+            sums[row] = first[row].wrapping_add(second[row]);
+            rest &= rest - 1;
+        }
+    }
+    sums
+}
+
+/// The total over the rounds of the number in the row of that round, whose sums are made anew in each round.
+fn plain_full_rows(batch: &Scattered, rounds: usize, sums: fn(&Scattered) -> Vec<i64>) -> i64 {
+    let mut total = 0i64;
+    for round in 0..rounds {
+        let answer = sums(black_box(batch));
+        let answer = black_box(&answer);
+        if round < answer.len() && batch.valid[round] {
+            total = total.wrapping_add(answer[round]);
+        }
+    }
+    total
+}
+
 /// The least times of two works over several trials, which take turns, in nanoseconds a row.
 fn least<P: FnMut(), R: FnMut()>(rows: usize, rounds: usize, mut proved: P, mut plain: R) -> (f64, f64) {
     let (mut first, mut second) = (f64::MAX, f64::MAX);
@@ -227,6 +304,26 @@ fn executions<R: Fn(usize) -> i64>(name: &str, rows: usize, rounds: usize, shape
     report(name, rows, times);
 }
 
+/// Reports whole calls whose rows run only where no argument is null, in nanoseconds a full row, beside a plain loop over
+/// marks, and beside one over words.
+fn executions_of_full_rows(name: &str, rows: usize, rounds: usize, shape: u8, nulls: u64) {
+    // SAFETY: the function asks nothing of its numbers.
+    let proved = |rounds| unsafe { rowbench_execute_rows(rows, rounds, shape) };
+    let batch = Scattered::new(rows, nulls);
+    let loops: [(&str, fn(&Scattered) -> Vec<i64>); 2] =
+        [("marks", plain_sums_by_marks), ("words", plain_sums_by_words)];
+    for (by, sums) in loops {
+        assert_eq!(proved(64), plain_full_rows(&batch, 64, sums));
+        let times = least_of_rounds(
+            batch.full_rows(),
+            rounds,
+            |rounds| _ = black_box(proved(rounds)),
+            |rounds| _ = black_box(plain_full_rows(&batch, rounds, sums)),
+        );
+        report(&format!("{name}, {by}"), rows, times);
+    }
+}
+
 /// Two constants beside two columns with nulls in one, both through the proved call.
 fn executions_of_constants(rows: usize, rounds: usize) {
     // SAFETY: the function asks nothing of its numbers.
@@ -256,6 +353,8 @@ fn main() {
         let plain = |rounds| plain_beside_a_constant(rows, rounds);
         executions("execute_rows, a constant", rows, rounds, 2, plain);
         executions("execute_rows, prepared", rows, rounds, 4, plain);
+        executions_of_full_rows("a tenth null", rows, rounds, 5, 1);
+        executions_of_full_rows("nine tenths null", rows, rounds, 6, 9);
     }
     executions_of_constants(1 << 20, 8);
 }

@@ -1,6 +1,7 @@
 // Whole calls of a row function.
 use crate::sum::Sum;
 use crate::sum_prepared::SumPrepared;
+use crate::sum_valid::SumValid;
 use crate::tuples::two_columns;
 use bitlane::BitBuffer;
 use colbase::{
@@ -25,6 +26,20 @@ fn tenths(rows: usize, first: usize, ctx: ExecutionCtx) -> Res<Validity> {
     Ok(Validity::Array(bits))
 }
 
+/// A number from 0 to 9 that is pseudorandom in the row: the mix of `splitmix64`.
+fn pseudorandom_digit(row: usize) -> u64 {
+    let start = (row as u64).wrapping_mul(0x9E37_79B9_7F4A_7C15);
+    let first = (start ^ (start >> 30)).wrapping_mul(0xBF58_476D_1CE4_E5B9);
+    let second = (first ^ (first >> 27)).wrapping_mul(0x94D0_49BB_1331_11EB);
+    (second ^ (second >> 31)) % 10
+}
+
+/// Null at about `nulls` rows in ten, at pseudorandom places.
+fn scattered(rows: usize, nulls: u64, ctx: ExecutionCtx) -> Res<Validity> {
+    let bits = BitBuffer::collect_bool_in(ctx.alloc(), rows, |i| pseudorandom_digit(i) >= nulls)?;
+    Ok(Validity::Array(bits))
+}
+
 /// The number 9 in each row.
 fn nines(rows: usize, ctx: ExecutionCtx) -> Res<ArrayRef> {
     let nine = Scalar::int(9, PType::I64, Nullability::NonNullable);
@@ -32,15 +47,17 @@ fn nines(rows: usize, ctx: ExecutionCtx) -> Res<ArrayRef> {
 }
 
 /// Two columns of `rows` numbers: with nulls in the first (0) or in both (1), a column without nulls beside a constant (2, 4),
-/// or two constants.
+/// pseudorandom nulls in the first (5, 6), or two constants.
 fn columns(rows: usize, shape: u8, ctx: ExecutionCtx) -> Res<ExecutionArgs> {
     let first = match shape {
         0 | 1 => rising(rows, tenths(rows, 3, ctx)?, ctx)?,
         2 | 4 => rising(rows, Validity::NonNullable, ctx)?,
+        5 => rising(rows, scattered(rows, 1, ctx)?, ctx)?,
+        6 => rising(rows, scattered(rows, 9, ctx)?, ctx)?,
         _ => nines(rows, ctx)?,
     };
     let second = match shape {
-        0 => rising(rows, Validity::NonNullable, ctx)?,
+        0 | 5 | 6 => rising(rows, Validity::NonNullable, ctx)?,
         1 => rising(rows, tenths(rows, 7, ctx)?, ctx)?,
         _ => nines(rows, ctx)?,
     };
@@ -77,6 +94,7 @@ pub fn executed_in_rounds(alloc: Global, rows: usize, rounds: usize, shape: u8) 
     for round in 0..rounds {
         let sums = match shape {
             4 => execute_rows(&SumPrepared, &EmptyOptions, &args, ctx)?,
+            5 | 6 => execute_rows(&SumValid, &EmptyOptions, &args, ctx)?,
             _ => execute_rows(&Sum, &EmptyOptions, &args, ctx)?,
         };
         total = total.wrapping_add(number_at(&sums, round));

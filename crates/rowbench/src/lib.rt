@@ -9,7 +9,9 @@ mod bits;
 mod pairs;
 mod sum;
 mod sum_prepared;
+mod sum_valid;
 mod tuples;
+mod valid_number;
 
 use bitlane::map_into;
 use pairs::Pairs;
@@ -50,7 +52,8 @@ pub extern "C" fn rowbench_map_rows(
 
 /// The total of one number of each answer of a row function that adds two columns of `rows` numbers, executed anew in each
 /// round. With shape 0 every tenth row of the first column is null, with 1 of both; with 2 the second is a constant, with 3
-/// both are, and 4 is as 2 by a prepared visit.
+/// both are, and 4 is as 2 by a prepared visit. With 5 about one row in ten of the first column is null, at pseudorandom
+/// places, with 6 nine in ten, and in both the rows without a null run alone.
 #[unsafe(no_mangle)]
 pub extern "C" fn rowbench_execute_rows(
     alloc: Global,
