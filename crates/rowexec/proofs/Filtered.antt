@@ -1,5 +1,5 @@
 -- Columns that are filtered to the marked rows.
-use Rattle.std.proofs.Common.{◌≡◌, ◌∙◌, ℕ, zero, suc, ◌<◌, Bool, true, false, List, [], ◌∷◌, ◌++◌, length, get_or, Option, None, Result, arith, inl, inr, refl, ap, sym, subst}
+use Rattle.std.proofs.Common.{◌≡◌, ◌∙◌, ℕ, zero, suc, ◌<◌, Bool, true, false, List, [], ◌∷◌, ◌++◌, length, get_or, Option, None, Result, arith, ◌⊎◌, inl, inr, refl, ap, sym, subst}
 use Rattle.std.specs.Prelude.{is_some}
 use Rattle.bitlane.specs.Bits.{bit}
 use Rattle.bitlane.proofs.Tables.{get_or-tabulate, length-tabulate}
@@ -11,9 +11,11 @@ use Rattle.colbase.specs.declared.fault.Fault.{Fault}
 use Rattle.rowtypes.specs.Rows.{DecodeFails, FirstUnread}
 use Rattle.rowplan.specs.Outcomes.{Outcome}
 use Rattle.rowexec.specs.Reads.{ReadFails, UnreadAt}
-use Rattle.rowexec.specs.Rows.{EachHasRows, full_cells, types_of, with_cell}
+use Rattle.rowexec.specs.Evidence.{EvidenceFails, joined}
+use Rattle.rowexec.specs.Rows.{Accepted, EachHasRows, full_cells, types_of, with_cell}
 use Rattle.rowexec.specs.Selections.{FilteredFrom}
-use Rattle.rowexec.specs.Visits.{DoneRow, FilteredColumn, FullAt, RanRows, ValidColumn}
+use Rattle.rowexec.specs.Visits.{FilteredColumn, FullAt, RanRows, ValidColumn}
+use Rattle.rowexec.proofs.JoinedRows.{joined_marked}
 use Rattle.rowexec.proofs.Selecting.{full_at}
 use Rattle.rowexec.proofs.SetPlaces.{place_of, place_within}
 use Rattle.rowexec.proofs.Unread.{ran_weaker}
@@ -108,23 +110,35 @@ fails_kept marks reads k olds news h e (inl m) = inl m
 fails_kept marks reads k olds news h e (inr p) = inr (record { place = p.place; is = p.is; unread = unread_kept marks reads k olds news p.place h p.first })
 
 -- the values of the filtered columns, each at its own row
-pub values_kept : {E : Type 0} (meaning : List Cell → Outcome E) (neutral : E) (storage : Option LogicalType) (marks : List Bool) (olds news : List Array) → EachHasRows (length marks) olds → MarksFull marks olds → FilteredFrom marks olds news → (a : Array) → FilteredColumn meaning neutral storage news marks a → ValidColumn meaning neutral storage olds (length marks) a
-values_kept meaning neutral storage marks olds news n m h a f = record {
+pub values_kept : {E : Type 0} (finish : E → Option ℕ) (meaning : List Cell → Outcome E) (storage : Option LogicalType) (marks : List Bool) (olds news : List Array) → EachHasRows (length marks) olds → MarksFull marks olds → FilteredFrom marks olds news → (a : Array) → FilteredColumn finish meaning storage news marks a → ValidColumn finish meaning storage olds (length marks) a
+values_kept finish meaning storage marks olds news n m h a f = record {
   stored = f.stored;
   counted = f.counted;
   each = λ i cells k e.
       let from = place_of marks i (m i k ∙ ap is_some e) in
-      let Done : ℕ → Type 0 = λ r. DoneRow meaning neutral cells (row a r) in
+      let Done : ℕ → Type 0 = λ r. Accepted finish (meaning cells) (row a r) in
       subst Done from.2 (f.each from.0 cells from.1 (cells_kept marks olds news from.0 n h from.1 ∙ ap (full_cells olds) from.2 ∙ e));
 }
 
--- what a run of the filtered columns answers
-pub ran_kept : {E : Type 0} (meaning : List LogicalType → List Cell → Outcome E) (neutral : E) (storage : List LogicalType → Option LogicalType) (reads : List LogicalType → ℕ → Cell → Type 0) (told types : List LogicalType) (marks : List Bool) (olds news : List Array) (answer : Result Array Fault) (prepares steps : ℕ) → told ≡ types → EachHasRows (length marks) olds → MarksFull marks olds → FilteredFrom marks olds news
-    → RanRows (trues marks) (FilteredColumn (meaning told) neutral (storage told) news marks) (DecodeFails (reads told) 0 news) answer prepares steps
-    → RanRows (trues marks) (ValidColumn (meaning types) neutral (storage types) olds (length marks)) (ReadFails (reads types) 0 olds) answer prepares steps
-ran_kept meaning neutral storage reads told types marks olds news answer prepares steps same n m h ran =
-    let Told : List LogicalType → Type 0 = λ ts. RanRows (trues marks) (FilteredColumn (meaning ts) neutral (storage ts) news marks) (DecodeFails (reads ts) 0 news) answer prepares steps in
-    ran_weaker (trues marks) (FilteredColumn (meaning types) neutral (storage types) news marks) (ValidColumn (meaning types) neutral (storage types) olds (length marks)) (DecodeFails (reads types) 0 news) (ReadFails (reads types) 0 olds) answer prepares steps
-    (values_kept (meaning types) neutral (storage types) marks olds news n m h)
-    (fails_kept marks (reads types) 0 olds news h)
-    (subst Told same ran)
+-- the evidence of the filtered columns is that of the full rows
+pub evidence_kept : {E : Type 0} (join : E → E → E) (neutral : E) (meaning : List Cell → Outcome E) (deferred : Bool) (finish : E → Option ℕ) (marks : List Bool) (olds news : List Array) → EachHasRows (length marks) olds → MarksFull marks olds → FilteredFrom marks olds news
+    → (e : Fault) → EvidenceFails deferred finish (joined join neutral meaning (full_cells news) (trues marks)) e → EvidenceFails deferred finish (joined join neutral meaning (full_cells olds) (length marks)) e
+evidence_kept {E} join neutral meaning deferred finish marks olds news n m h e f =
+    let Fails : E → Type 0 = λ v. EvidenceFails deferred finish v e in
+    subst Fails (joined_marked join neutral meaning marks (full_cells olds) (full_cells news) m (λ j k. cells_kept marks olds news j n h k)) f
+
+module _ {E : Type 0} (finish : E → Option ℕ) (join : E → E → E) (neutral : E) (meaning : List LogicalType → List Cell → Outcome E) (deferred : List LogicalType → Bool) (storage : List LogicalType → Option LogicalType) (reads : List LogicalType → ℕ → Cell → Type 0) where
+  -- what a run of the filtered columns answers
+  pub ran_kept : (told types : List LogicalType) (marks : List Bool) (olds news : List Array) (answer : Result Array Fault) (prepares steps : ℕ) → told ≡ types → EachHasRows (length marks) olds → MarksFull marks olds → FilteredFrom marks olds news
+      → RanRows (trues marks) (FilteredColumn finish (meaning told) (storage told) news marks) (λ e. DecodeFails (reads told) 0 news e ⊎ EvidenceFails (deferred told) finish (joined join neutral (meaning told) (full_cells news) (trues marks)) e) answer prepares steps
+      → RanRows (trues marks) (ValidColumn finish (meaning types) (storage types) olds (length marks)) (λ e. ReadFails (reads types) 0 olds e ⊎ EvidenceFails (deferred types) finish (joined join neutral (meaning types) (full_cells olds) (length marks)) e) answer prepares steps
+  ran_kept told types marks olds news answer prepares steps same n m h ran =
+      let Old : Fault → Type 0 = λ e. DecodeFails (reads types) 0 news e ⊎ EvidenceFails (deferred types) finish (joined join neutral (meaning types) (full_cells news) (trues marks)) e in
+      let New : Fault → Type 0 = λ e. ReadFails (reads types) 0 olds e ⊎ EvidenceFails (deferred types) finish (joined join neutral (meaning types) (full_cells olds) (length marks)) e in
+      let fails : (e : Fault) → Old e → New e = λ e d. elim d [
+        | inl f ↦ inl (fails_kept marks (reads types) 0 olds news h e f)
+        | inr f ↦ inr (evidence_kept join neutral (meaning types) (deferred types) finish marks olds news n m h e f)
+      ] in
+      let Told : List LogicalType → Type 0 = λ ts. RanRows (trues marks) (FilteredColumn finish (meaning ts) (storage ts) news marks) (λ e. DecodeFails (reads ts) 0 news e ⊎ EvidenceFails (deferred ts) finish (joined join neutral (meaning ts) (full_cells news) (trues marks)) e) answer prepares steps in
+      ran_weaker (trues marks) (FilteredColumn finish (meaning types) (storage types) news marks) (ValidColumn finish (meaning types) (storage types) olds (length marks)) Old New answer prepares steps
+      (values_kept finish (meaning types) (storage types) marks olds news n m h) fails (subst Told same ran)

@@ -1,7 +1,7 @@
 -- The arguments that are one value, as a prepared value is made from them.
 use Rattle.std.proofs.Common.{◌≡◌, ℕ, suc, ◌<◌, Bool, true, false, List, [], ◌∷◌, Option, None, Some, refl, inl, inr, subst, sym, arith}
 use Rattle.std.proofs.lemmas.Bool.Decides.{nat_tests}
-use Rattle.std.specs.Prelude.{nat_lt, if◌then◌else◌, Result, Ok, Err, IfOk, IfErr, ◌≤◌}
+use Rattle.std.specs.Prelude.{nat_lt, if◌then◌else◌, Result, Ok, Err, IfOk, IfErr, ◌≤◌, ◌⊎◌}
 use Rattle.colbase.specs.Arrays.{Array, MustRead, constant_cell, dtype, len, row}
 use Rattle.colbase.specs.Cell.{Cell}
 use Rattle.colbase.specs.LogicalType.{LogicalType}
@@ -11,8 +11,7 @@ use Rattle.rowtypes.specs.Outputs.{StatesAnswer}
 use Rattle.rowtypes.specs.Rows.{AgreesWith, DecodeFails, ReadsAllFrom, ReadsKnown, batch_values, shown_from}
 use Rattle.rowtypes.specs.Shown.{batch_value}
 use Rattle.rowplan.specs.Outcomes.{Outcome, done}
-use Rattle.rowexec.specs.Rows.{full_cells}
-use Rattle.rowexec.specs.Visits.{DenseColumn, RanRows}
+use Rattle.rowexec.specs.Visits.{DenseColumn, RanRows, ShowsFull}
 use Rattle.rowexec.proofs.Dense.{dense_column}
 
 chosen : (b : Bool) (o : Option Cell) (x : Cell) → (if b then o else None) ≡ Some x → (b ≡ true) × (o ≡ Some x)
@@ -39,21 +38,21 @@ pub agrees_at : (known known' : List (Option Cell)) (cells cells' : List Cell) �
 agrees_at known known' cells cells' e h a = subst (λ (k : List (Option Cell)). AgreesWith k cells) (sym e) (subst (λ (c : List Cell). AgreesWith known' c) (sym h) a)
 
 -- an execution whose loop ran
-pub ran : {E X R : Type 0} {post : X → R → Type 0} (r : Result Array Fault) (n steps : ℕ) (meaning : List Cell → Outcome E) (neutral : E) (reads : ℕ → Cell → Type 0) (shown : ℕ → Array → ℕ → Cell) (storage : Option LogicalType) (t : LogicalType) (columns : List Array) (cells : X → List Cell) (shows : ℕ → List Cell) (states : R → Cell)
-    → storage ≡ Some t → ((i : ℕ) → i < n → shows i ≡ shown_from shown 0 columns i)
+pub ran : {E X R : Type 0} {post : X → R → Type 0} (r : Result Array Fault) (n steps : ℕ) (finish : E → Option ℕ) (meaning : List Cell → Outcome E) (neutral : E) (Judged : Fault → Type 0) (reads : ℕ → Cell → Type 0) (shown : ℕ → Array → ℕ → Cell) (storage : Option LogicalType) (t : LogicalType) (columns : List Array) (cells : X → List Cell) (shows : ℕ → List Cell) (states : R → Cell)
+    → finish neutral ≡ None → storage ≡ Some t → ((i : ℕ) → i < n → shows i ≡ shown_from shown 0 columns i)
     → ((i : ℕ) → i < n → (x : X) (y : R) → cells x ≡ shows i → post x y → meaning (cells x) ≡ done (states y) neutral)
-    → ((i : ℕ) (row_cells : List Cell) → full_cells columns i ≡ Some row_cells → shown_from shown 0 columns i ≡ row_cells)
+    → ShowsFull shown columns
     → IfOk r (λ a. dtype a ≡ t) → IfOk r (λ a. len a ≡ n) → IfOk r (λ a. (i : ℕ) → i < n → StatesAnswer (λ x. cells x ≡ shows i) (λ x y. post x y) states (row a i))
     → IfErr r (λ e. e ≡ Memory) → steps ≤ n → IfOk r (λ a. n ≤ steps)
-    → RanRows n (DenseColumn meaning neutral shown storage columns n) (DecodeFails reads 0 columns) r 1 steps
-ran {E} {X} {R} {post} (Ok a) n steps meaning neutral reads shown storage t columns cells shows states hs same agrees full ht hn each errors most least = record {
-  answered = dense_column meaning neutral shown storage t columns n cells shows post states a hs same agrees full ht hn each;
+    → RanRows n (DenseColumn finish meaning shown storage columns n) (λ e. DecodeFails reads 0 columns e ⊎ Judged e) r 1 steps
+ran {E} {X} {R} {post} (Ok a) n steps finish meaning neutral Judged reads shown storage t columns cells shows states accepts hs same agrees full ht hn each errors most least = record {
+  answered = dense_column finish meaning neutral shown storage t columns n cells shows post states a accepts hs same agrees full ht hn each;
   prepared = omega arith;
   most = most;
   least = least;
 }
-ran (Err e) n steps meaning neutral reads shown storage t columns cells shows states hs same agrees full ht hn each errors most least = record {
-  answered = inl errors;
+ran (Err e) n steps finish meaning neutral Judged reads shown storage t columns cells shows states accepts hs same agrees full ht hn each errors most least = record {
+  answered = inl (inl errors);
   prepared = omega arith;
   most = most;
   least = tt;

@@ -1,23 +1,24 @@
 -- Which of the cells that the arguments show at a row are read.
-use Rattle.std.proofs.Common.{◌≡◌, ℕ, suc, ◌<◌, Bool, true, false, List, [], ◌∷◌, Option, None, Some, inl, inr, refl, sym, subst, arith}
+use Rattle.std.proofs.Common.{◌≡◌, ◌∙◌, ℕ, suc, ◌<◌, Bool, true, false, List, [], ◌∷◌, Option, None, Some, inl, inr, ap, refl, sym, subst, arith}
 use Rattle.std.specs.Prelude.{IsSome, is_some}
 use Rattle.colbase.specs.Arrays.{Array, len, row}
 use Rattle.colbase.specs.Cell.{Cell}
 use Rattle.rowtypes.specs.Arguments.{ShowsConstant, ShowsRow}
 use Rattle.rowtypes.specs.Rows.{ReadsAll, ReadsAllFrom, ReadsFrom, shown_from}
 use Rattle.rowtypes.specs.Shown.{batch_value}
-use Rattle.rowplan.specs.Policies.{owned_policy}
+use Rattle.rowplan.specs.Policies.{deferred_policy, owned_policy}
 use Rattle.rowplan.specs.declared.batch_plan.RowPolicy.{RowPolicy}
+use Rattle.rowplan.specs.declared.batch_plan.RowPolicy.TheVariants.{Dense}
 use Rattle.rowexec.specs.Counts.{runs_valid_only}
 use Rattle.rowexec.specs.Rows.{EachHasRows, full_cells, with_cell}
 use Rattle.rowexec.specs.Visits.{FullAt, MayRunAll}
 use Rattle.rowexec.proofs.FullRows.{shown_at}
 
--- where a policy runs all rows, the elements are dense safe
-dense_safe_of : (policy : RowPolicy) (safe infallible : Bool) → runs_valid_only policy ≡ false → policy ≡ owned_policy safe infallible → safe ≡ true
-dense_safe_of policy true infallible h e = refl
-dense_safe_of policy false infallible h e =
-    let k : runs_valid_only (owned_policy false infallible) ≡ false = subst (λ (p : RowPolicy). runs_valid_only p ≡ false) e h in
+-- where a visit that writes one value a row runs all rows, the elements are dense safe
+dense_safe_of : (policy : RowPolicy) (safe infallible : Bool) → policy ≡ Dense → policy ≡ owned_policy safe infallible → safe ≡ true
+dense_safe_of policy true infallible r e = refl
+dense_safe_of policy false infallible r e =
+    let k : Dense ≡ owned_policy false infallible = sym r ∙ e in
     absurd (cc)
 
 shown_read : (reads : Cell → Type 0) (shown : Array → ℕ → Cell) → ShowsConstant shown → ShowsRow shown → (a : Array) (i : ℕ) (o : Option Cell) → row a i ≡ o → ReadsAll reads a → i < len a → IsSome o → reads (shown a i)
@@ -49,3 +50,43 @@ full_at n i [] e h f = tt
 full_at n i (a ∷ arrays) e h f =
     let s = both_some (row a i) (full_cells arrays i) f in
     (omega (arith, e.0), s.0, full_at n i arrays e.1 h s.1)
+
+full_has_cells : (i : ℕ) (arrays : List Array) → FullAt i arrays → is_some (full_cells arrays i) ≡ true
+full_has_cells i [] h = refl
+full_has_cells i (a ∷ arrays) h = are_some (row a i) (full_cells arrays i) h.1 (full_has_cells i arrays h.2)
+  where
+    are_some : (o : Option Cell) (rest : Option (List Cell)) → IsSome o → is_some rest ≡ true → is_some (with_cell o rest) ≡ true
+    are_some (Some x) (Some xs) p q = refl
+    are_some (Some x) None p q = absurd (cc)
+    are_some None rest p q = absurd (cc)
+
+-- a full row has cells
+pub full_selected : (columns : List Array) (n : ℕ) → ((i : ℕ) → i < n → FullAt i columns) → (i : ℕ) → i < n → true ≡ is_some (full_cells columns i)
+full_selected columns n full i h = sym (full_has_cells i columns (full i h))
+
+-- a visit with evidence runs all rows only where each of them is full
+pub deferred_runs : (policy : RowPolicy) (safe infallible : Bool) (n : ℕ) (columns : List Array) → policy ≡ deferred_policy safe infallible → MayRunAll policy n columns → (i : ℕ) → i < n → FullAt i columns
+deferred_runs policy safe infallible n columns is (inl all) = absurd (never_dense safe infallible (sym all ∙ is))
+  where
+    never_dense : (safe infallible : Bool) → Dense ≡ deferred_policy safe infallible → ⊥
+    never_dense true true h = cc
+    never_dense true false h = cc
+    never_dense false infallible h = cc
+deferred_runs policy safe infallible n columns is (inr full) = full
+
+-- where it may run all rows on what the columns show under nulls, the elements are dense safe
+pub retry_safe : (policy : RowPolicy) (safe infallible : Bool) → runs_valid_only policy ≡ false → policy ≡ deferred_policy safe infallible → safe ≡ true
+retry_safe policy true infallible r e = refl
+retry_safe policy false infallible r e =
+    let k : false ≡ true = sym r ∙ ap runs_valid_only e in
+    absurd (cc)
+
+-- a visit without evidence that may run all rows is dense
+pub owned_dense : (policy : RowPolicy) (safe infallible : Bool) → runs_valid_only policy ≡ false → policy ≡ owned_policy safe infallible → policy ≡ Dense
+owned_dense policy true true r e = e
+owned_dense policy true false r e =
+    let k : false ≡ true = sym r ∙ ap runs_valid_only e in
+    absurd (cc)
+owned_dense policy false infallible r e =
+    let k : false ≡ true = sym r ∙ ap runs_valid_only e in
+    absurd (cc)

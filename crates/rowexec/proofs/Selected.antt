@@ -13,7 +13,8 @@ use Rattle.colbase.specs.declared.fault.Fault.{Fault}
 use Rattle.rowtypes.specs.Shown.{batch_value}
 use Rattle.rowplan.specs.Outcomes.{Outcome}
 use Rattle.rowplan.specs.declared.batch_plan.RowPolicy.{RowPolicy}
-use Rattle.rowexec.specs.Counts.{each_one_value, full_bits, is_no_nulls, is_one_value, one_row, policy_steps, runs_valid_only, settled, some_column, steps_asked}
+use Rattle.rowplan.specs.declared.batch_plan.RowPolicy.TheVariants.{Dense, DenseWithRetry, ValidOnly}
+use Rattle.rowexec.specs.Counts.{each_one_value, full_bits, is_no_nulls, is_one_value, most_prepares, one_row, policy_steps, retried, runs_valid_only, settled, some_column, steps_asked}
 use Rattle.rowexec.specs.Rows.{EachHasRows, full_cells, some_all_null}
 use Rattle.rowexec.specs.Selections.{Selected}
 use Rattle.rowexec.specs.declared.batch.selection.Selection.{Selection}
@@ -47,36 +48,18 @@ one_full n columns r h i b =
     values_full n i columns r (both_parts (some_column columns) (each_one_value columns) p.1).1 (omega (arith, few, b))
 
 -- a column of all rows gives the rows without a null argument
-pub valid_column : {E : Type 0} (meaning : List Cell → Outcome E) (neutral : E) (shown : ℕ → Array → ℕ → Cell) (storage : Option LogicalType) (columns : List Array) (n : ℕ) (a : Array) → DenseColumn meaning neutral shown storage columns n a → ValidColumn meaning neutral storage columns n a
-valid_column meaning neutral shown storage columns n a d = record {
+pub valid_column : {E : Type 0} (finish : E → Option ℕ) (meaning : List Cell → Outcome E) (shown : ℕ → Array → ℕ → Cell) (storage : Option LogicalType) (columns : List Array) (n : ℕ) (a : Array) → DenseColumn finish meaning shown storage columns n a → ValidColumn finish meaning storage columns n a
+valid_column finish meaning shown storage columns n a d = record {
   stored = d.stored;
   counted = d.counted;
   each = λ i cells h k. record {
     cell = (d.each i h).cell;
+    evidence = (d.each i h).evidence;
     is = (d.each i h).is;
-    outcome = ap meaning (sym (d.full i cells k)) ∙ (d.each i h).outcome;
+    outcome_is = ap meaning (sym (d.full i cells k)) ∙ (d.each i h).outcome_is;
+    accepted = (d.each i h).accepted;
   };
 }
-
-given : (r : Result Array Fault) (P Q : Array → Type 0) (Fails : Fault → Type 0) → ((a : Array) → P a → Q a) → MatchResult r P Fails → MatchResult r Q Fails
-given (Ok a) P Q Fails f h = f a h
-given (Err e) P Q Fails f h = h
-
--- a run of all rows, as one of the rows that a policy asks for
-pub ran_all : {E : Type 0} (meaning : List Cell → Outcome E) (neutral : E) (shown : ℕ → Array → ℕ → Cell) (storage : Option LogicalType) (columns : List Array) (n m k : ℕ) (Fails : Fault → Type 0) (r : Result Array Fault) (prepares steps : ℕ) → m ≡ k → RanRows m (DenseColumn meaning neutral shown storage columns n) Fails r prepares steps → RanRows k (ValidColumn meaning neutral storage columns n) Fails r prepares steps
-ran_all meaning neutral shown storage columns n m k Fails r prepares steps e ran =
-    let Runs : ℕ → Type 0 = λ x. RanRows x (ValidColumn meaning neutral storage columns n) Fails r prepares steps in
-    subst Runs e (record {
-      answered = given r (DenseColumn meaning neutral shown storage columns n) (ValidColumn meaning neutral storage columns n) Fails (valid_column meaning neutral shown storage columns n) ran.answered;
-      prepared = ran.prepared;
-      most = ran.most;
-      least = ran.least;
-    })
-
-pub ran_as_many : (Gives : Array → Type 0) (Fails : Fault → Type 0) (m k : ℕ) (r : Result Array Fault) (prepares steps : ℕ) → m ≡ k → RanRows m Gives Fails r prepares steps → RanRows k Gives Fails r prepares steps
-ran_as_many Gives Fails m k r prepares steps e ran =
-    let Runs : ℕ → Type 0 = λ x. RanRows x Gives Fails r prepares steps in
-    subst Runs e ran
 
 full_is_some : (i : ℕ) (arrays : List Array) → FullAt i arrays → is_some (full_cells arrays i) ≡ true
 full_is_some i [] h = refl
@@ -111,25 +94,57 @@ marks_are f zero (b ∷ marks) l h = absurd (omega (arith, l))
 marks_are f (suc n) [] l h = absurd (omega (arith, l))
 marks_are f (suc n) (b ∷ marks) l h = ap (λ x. x ∷ tabulate (λ i. f (suc i)) n) (sym (h 0 (omega arith))) ∙ ap (λ bits. b ∷ bits) (marks_are (λ i. f (suc i)) n marks (omega (arith, l)) (λ i k. h (suc i) (omega (arith, k))))
 
-pub steps_of_one : (policy : RowPolicy) (n : ℕ) (columns : List Array) → some_all_null columns ≡ false → one_row n columns ≡ true → 1 ≡ steps_asked policy n columns
-steps_of_one policy n columns s o = rw s (rw o refl)
+pub trues_full : (n : ℕ) (columns : List Array) → ((i : ℕ) → i < n → FullAt i columns) → trues (full_bits n columns) ≡ n
+trues_full n columns h = trues_all (λ i. is_some (full_cells columns i)) n (λ i b. full_is_some i columns (h i b))
 
-policy_steps_all : (policy : RowPolicy) (n : ℕ) (columns : List Array) → MayRunAll policy n columns → n ≡ policy_steps policy n columns
-policy_steps_all policy n columns (inl r) = rw r refl
-policy_steps_all policy n columns (inr full) = go (runs_valid_only policy)
+pub steps_of_one : (policy : RowPolicy) (accepted : Bool) (n : ℕ) (columns : List Array) → some_all_null columns ≡ false → one_row n columns ≡ true → 1 ≡ steps_asked policy accepted n columns
+steps_of_one policy accepted n columns s o = rw s (rw o refl)
+
+-- no row runs once more where all are full
+pub retried_none : (full n : ℕ) → full ≡ n → retried full n ≡ 0
+retried_none full n e = grind (arith, nat_tests, e)
+
+policy_steps_all : (policy : RowPolicy) (accepted : Bool) (n : ℕ) (columns : List Array) → MayRunAll policy n columns → n ≡ policy_steps policy accepted n columns
+policy_steps_all Dense accepted n columns h = refl
+policy_steps_all DenseWithRetry true n columns h = refl
+policy_steps_all DenseWithRetry false n columns (inl r) = absurd (cc)
+policy_steps_all DenseWithRetry false n columns (inr full) = omega (arith, retried_none (trues (full_bits n columns)) n (trues_full n columns full))
+policy_steps_all ValidOnly accepted n columns (inl r) = absurd (cc)
+policy_steps_all ValidOnly accepted n columns (inr full) = sym (trues_full n columns full)
+
+pub steps_of_all : (policy : RowPolicy) (accepted : Bool) (n : ℕ) (columns : List Array) → some_all_null columns ≡ false → one_row n columns ≡ false → MayRunAll policy n columns → n ≡ steps_asked policy accepted n columns
+steps_of_all policy accepted n columns s o h = rw s (rw o (policy_steps_all policy accepted n columns h))
+
+-- the rows that the policy asks for, where neither a column of nulls nor one row stands for all
+pub steps_of_policy : (policy : RowPolicy) (accepted : Bool) (n : ℕ) (columns : List Array) → some_all_null columns ≡ false → one_row n columns ≡ false → policy_steps policy accepted n columns ≡ steps_asked policy accepted n columns
+steps_of_policy policy accepted n columns s o = rw s (rw o refl)
+
+-- the marked rows are the full ones
+pub trues_marked : (n : ℕ) (columns : List Array) (marks : List Bool) → length marks ≡ n → ((i : ℕ) → i < n → bit marks i ≡ is_some (full_cells columns i)) → trues marks ≡ trues (full_bits n columns)
+trues_marked n columns marks l h = ap trues (sym (marks_are (λ i. is_some (full_cells columns i)) n marks l h))
+
+pub trues_empty : (n : ℕ) (columns : List Array) → ((i : ℕ) → i < n → is_some (full_cells columns i) ≡ false) → trues (full_bits n columns) ≡ 0
+trues_empty n columns h = trues_none (λ i. is_some (full_cells columns i)) n h
+
+-- no more rows are full than there are
+pub trues_below : (f : ℕ → Bool) (n : ℕ) → trues (tabulate f n) ≤ n
+trues_below f zero = omega arith
+trues_below f (suc n) = one_more (f 0) (tabulate (λ i. f (suc i)) n) n (trues_below (λ i. f (suc i)) n)
   where
-    go : (b : Bool) → n ≡ (Rattle.std.specs.Prelude.cond b (trues (full_bits n columns)) n)
-    go true = sym (trues_all (λ i. is_some (full_cells columns i)) n (λ i h. full_is_some i columns (full i h)))
-    go false = refl
+    one_more : (b : Bool) (bits : List Bool) (m : ℕ) → trues bits ≤ m → trues (b ∷ bits) ≤ suc m
+    one_more true bits m h = omega (arith, h)
+    one_more false bits m h = omega (arith, h)
 
-pub steps_of_all : (policy : RowPolicy) (n : ℕ) (columns : List Array) → some_all_null columns ≡ false → one_row n columns ≡ false → MayRunAll policy n columns → n ≡ steps_asked policy n columns
-steps_of_all policy n columns s o h = rw s (rw o (policy_steps_all policy n columns h))
+valid_steps : (policy : RowPolicy) (accepted : Bool) (n : ℕ) (columns : List Array) → runs_valid_only policy ≡ true → policy_steps policy accepted n columns ≡ trues (full_bits n columns)
+valid_steps Dense accepted n columns r = absurd (cc)
+valid_steps DenseWithRetry accepted n columns r = absurd (cc)
+valid_steps ValidOnly accepted n columns r = refl
 
-pub steps_of_marks : (policy : RowPolicy) (n : ℕ) (columns : List Array) (marks : List Bool) → some_all_null columns ≡ false → one_row n columns ≡ false → runs_valid_only policy ≡ true → length marks ≡ n → ((i : ℕ) → i < n → bit marks i ≡ is_some (full_cells columns i)) → trues marks ≡ steps_asked policy n columns
-steps_of_marks policy n columns marks s o r l h = rw s (rw o (rw r (ap trues (sym (marks_are (λ i. is_some (full_cells columns i)) n marks l h)))))
+pub steps_of_marks : (policy : RowPolicy) (accepted : Bool) (n : ℕ) (columns : List Array) (marks : List Bool) → some_all_null columns ≡ false → one_row n columns ≡ false → runs_valid_only policy ≡ true → length marks ≡ n → ((i : ℕ) → i < n → bit marks i ≡ is_some (full_cells columns i)) → trues marks ≡ steps_asked policy accepted n columns
+steps_of_marks policy accepted n columns marks s o r l h = trues_marked n columns marks l h ∙ sym (valid_steps policy accepted n columns r) ∙ steps_of_policy policy accepted n columns s o
 
-pub no_steps : (policy : RowPolicy) (n : ℕ) (columns : List Array) → some_all_null columns ≡ false → one_row n columns ≡ false → runs_valid_only policy ≡ true → ((i : ℕ) → i < n → is_some (full_cells columns i) ≡ false) → steps_asked policy n columns ≡ 0
-no_steps policy n columns s o r h = rw s (rw o (rw r (trues_none (λ i. is_some (full_cells columns i)) n h)))
+pub no_steps : (policy : RowPolicy) (accepted : Bool) (n : ℕ) (columns : List Array) → some_all_null columns ≡ false → one_row n columns ≡ false → runs_valid_only policy ≡ true → ((i : ℕ) → i < n → is_some (full_cells columns i) ≡ false) → steps_asked policy accepted n columns ≡ 0
+no_steps policy accepted n columns s o r h = sym (steps_of_policy policy accepted n columns s o) ∙ valid_steps policy accepted n columns r ∙ trues_empty n columns h
 
 not_zero : (t : ℕ) → 0 < t → (t == 0) ≡ false
 not_zero t h = grind (arith, nat_tests, h)
@@ -146,9 +161,6 @@ unsettled policy n columns s h = rw s (go (runs_valid_only policy) (nat_lt 0 n) 
     go true false e f = refl
     go true true e f = not_zero (trues (full_bits n columns)) (h e (some_rows n f))
 
-trues_full : (n : ℕ) (columns : List Array) → ((i : ℕ) → i < n → FullAt i columns) → trues (full_bits n columns) ≡ n
-trues_full n columns h = trues_all (λ i. is_some (full_cells columns i)) n (λ i b. full_is_some i columns (h i b))
-
 pub unsettled_one : (policy : RowPolicy) (n : ℕ) (columns : List Array) → some_all_null columns ≡ false → EachHasRows n columns → one_row n columns ≡ true → settled policy n columns ≡ false
 unsettled_one policy n columns s r o =
     let p = both_parts (nat_lt 0 n) (some_column columns && each_one_value columns) o in
@@ -156,11 +168,19 @@ unsettled_one policy n columns s r o =
     unsettled policy n columns s (λ e f. omega (arith, f, trues_full n columns (λ i b. values_full n i columns r values b)))
 
 pub unsettled_all : (policy : RowPolicy) (n : ℕ) (columns : List Array) → some_all_null columns ≡ false → MayRunAll policy n columns → settled policy n columns ≡ false
-unsettled_all policy n columns s (inl r) = unsettled policy n columns s (λ e f. absurd (cc (r, e)))
+unsettled_all policy n columns s (inl r) = unsettled policy n columns s (λ e f. absurd (cc (ap runs_valid_only r, e)))
 unsettled_all policy n columns s (inr full) = unsettled policy n columns s (λ e f. omega (arith, f, trues_full n columns full))
 
 pub unsettled_marks : (policy : RowPolicy) (n : ℕ) (columns : List Array) (marks : List Bool) → some_all_null columns ≡ false → length marks ≡ n → ((i : ℕ) → i < n → bit marks i ≡ is_some (full_cells columns i)) → 0 < trues marks → settled policy n columns ≡ false
 unsettled_marks policy n columns marks s l h m = unsettled policy n columns s (λ e f. omega (arith, m, ap trues (marks_are (λ i. is_some (full_cells columns i)) n marks l h)))
+
+pub unsettled_attempt : (policy : RowPolicy) (n : ℕ) (columns : List Array) → some_all_null columns ≡ false → policy ≡ DenseWithRetry → settled policy n columns ≡ false
+unsettled_attempt policy n columns s r = unsettled policy n columns s (λ e f. absurd (cc (ap runs_valid_only r, e)))
+
+pub most_once : (policy : RowPolicy) → 1 ≤ most_prepares policy
+most_once Dense = omega arith
+most_once DenseWithRetry = omega arith
+most_once ValidOnly = omega arith
 
 pub no_cells : (o : Option (List Cell)) → is_some o ≡ false → o ≡ None
 no_cells None h = refl

@@ -1,33 +1,71 @@
 -- What ran of a selection, told of the columns of the call.
-use Rattle.std.proofs.Common.{◌≡◌, ℕ, List, Option, Result, refl, subst}
+use Rattle.std.proofs.Common.{◌≡◌, ◌≤◌, ℕ, Bool, List, arith, Option, Some, Result, Ok, Err, ◌⊎◌, inl, inr, sym, subst}
+use Rattle.std.specs.Prelude.{IfErr, IfOk, MatchOption, MatchResult}
 use Rattle.colbase.specs.Arrays.{Array}
 use Rattle.colbase.specs.Cell.{Cell}
 use Rattle.colbase.specs.LogicalType.{LogicalType}
 use Rattle.colbase.specs.declared.fault.Fault.{Fault}
 use Rattle.rowtypes.specs.Rows.{DecodeFails}
 use Rattle.rowplan.specs.Outcomes.{Outcome}
+use Rattle.rowexec.specs.Evidence.{EvidenceFails, joined}
 use Rattle.rowexec.specs.Reads.{ReadFails}
-use Rattle.rowexec.specs.Rows.{types_of}
+use Rattle.rowexec.specs.Rows.{full_cells, types_of}
 use Rattle.rowexec.specs.Visits.{DenseColumn, RanRows, ValidColumn}
-use Rattle.rowexec.proofs.Selected.{ran_all, ran_as_many}
+use Rattle.rowexec.proofs.Selected.{valid_column}
 use Rattle.rowexec.proofs.Unread.{ran_weaker, read_fails}
 
-module _ {E : Type 0} (neutral : E) (meaning : List LogicalType → List Cell → Outcome E) (storage : List LogicalType → Option LogicalType) (reads : List LogicalType → ℕ → Cell → Type 0) where
+-- an answer with values, as one that may have none
+pub some_answered : (told : Result Array Fault) (answer : Result (Option Array) Fault) (Nothing : Type 0) (Gives : Array → Type 0) (Fails : Fault → Type 0) → MatchResult told (λ a. answer ≡ Ok (Some a)) (λ e. answer ≡ Err e) → MatchResult told Gives Fails → MatchResult answer (λ o. MatchOption o Nothing Gives) Fails
+some_answered (Ok a) answer Nothing Gives Fails same h =
+    let Given : Result (Option Array) Fault → Type 0 = λ r. MatchResult r (λ o. MatchOption o Nothing Gives) Fails in
+    subst Given (sym same) h
+some_answered (Err e) answer Nothing Gives Fails same h =
+    let Given : Result (Option Array) Fault → Type 0 = λ r. MatchResult r (λ o. MatchOption o Nothing Gives) Fails in
+    subst Given (sym same) h
+
+pub some_counted : (told : Result Array Fault) (answer : Result (Option Array) Fault) (P : Type 0) → MatchResult told (λ a. answer ≡ Ok (Some a)) (λ e. answer ≡ Err e) → IfOk told (λ a. P) → IfOk answer (λ o. P)
+some_counted (Ok a) answer P same h =
+    let Given : Result (Option Array) Fault → Type 0 = λ r. IfOk r (λ o. P) in
+    subst Given (sym same) h
+some_counted (Err e) answer P same h =
+    let Given : Result (Option Array) Fault → Type 0 = λ r. IfOk r (λ o. P) in
+    subst Given (sym same) tt
+
+least_told : (told : Result Array Fault) (k asked told_steps steps : ℕ) → k ≡ asked → steps ≡ told_steps → IfOk told (λ a. k ≤ told_steps) → IfOk told (λ a. asked ≤ steps)
+least_told (Ok a) k asked told_steps steps e f h = omega (arith, e, f, h)
+least_told (Err v) k asked told_steps steps e f h = tt
+
+pub some_least : (told : Result Array Fault) (answer : Result (Option Array) Fault) (k asked told_steps steps : ℕ) → MatchResult told (λ a. answer ≡ Ok (Some a)) (λ e. answer ≡ Err e) → k ≡ asked → steps ≡ told_steps → IfOk told (λ a. k ≤ told_steps) → IfOk answer (λ o. asked ≤ steps)
+some_least told answer k asked told_steps steps same e f h = some_counted told answer (asked ≤ steps) same (least_told told k asked told_steps steps e f h)
+
+pub if_failed : {X : Type 0} (r : Result X Fault) (P : Type 0) → P → IfErr r (λ e. P)
+if_failed (Ok x) P h = tt
+if_failed (Err e) P h = h
+
+module _ {E : Type 0} (finish : E → Option ℕ) (join : E → E → E) (neutral : E) (meaning : List LogicalType → List Cell → Outcome E) (deferred : List LogicalType → Bool) (storage : List LogicalType → Option LogicalType) (reads : List LogicalType → ℕ → Cell → Type 0) where
+  -- why n rows of these columns fail
+  abbrev pub RowsFail : List Array → ℕ → Fault → Type 0
+  RowsFail columns n e = ReadFails (reads (types_of columns)) 0 columns e ⊎ EvidenceFails (deferred (types_of columns)) finish (joined join neutral (meaning (types_of columns)) (full_cells columns) n) e
+
   -- k rows of these columns, of n rows, ran
   abbrev pub Ran : ℕ → List Array → ℕ → Result Array Fault → ℕ → ℕ → Type 0
-  Ran k columns n = RanRows k (ValidColumn (meaning (types_of columns)) neutral (storage (types_of columns)) columns n) (ReadFails (reads (types_of columns)) 0 columns)
+  Ran k columns n = RanRows k (ValidColumn finish (meaning (types_of columns)) (storage (types_of columns)) columns n) (RowsFail columns n)
 
-  pub ran_of_call : (xs ys : List Array) (m n k l : ℕ) (answer : Result Array Fault) (prepares steps : ℕ) → xs ≡ ys → m ≡ n → k ≡ l → Ran k xs m answer prepares steps → Ran l ys n answer prepares steps
-  ran_of_call xs ys m n k l answer prepares steps e f h ran =
+  pub ran_of_call : (xs ys : List Array) (m n k : ℕ) (answer : Result Array Fault) (prepares steps : ℕ) → xs ≡ ys → m ≡ n → Ran k xs m answer prepares steps → Ran k ys n answer prepares steps
+  ran_of_call xs ys m n k answer prepares steps e f ran =
       let ByColumns : List Array → Type 0 = λ zs. Ran k zs m answer prepares steps in
       let ByRows : ℕ → Type 0 = λ r. Ran k ys r answer prepares steps in
-      ran_as_many (ValidColumn (meaning (types_of ys)) neutral (storage (types_of ys)) ys n) (ReadFails (reads (types_of ys)) 0 ys) k l answer prepares steps h (subst ByRows f (subst ByColumns e ran))
+      subst ByRows f (subst ByColumns e ran)
 
-  pub dense_of_call : (shown : List LogicalType → ℕ → Array → ℕ → Cell) (xs ys : List Array) (m n k l : ℕ) (answer : Result Array Fault) (prepares steps : ℕ) → xs ≡ ys → m ≡ n → k ≡ l
-      → RanRows k (DenseColumn (meaning (types_of xs)) neutral (shown (types_of xs)) (storage (types_of xs)) xs m) (DecodeFails (reads (types_of xs)) 0 xs) answer prepares steps → Ran l ys n answer prepares steps
-  dense_of_call shown xs ys m n k l answer prepares steps e f h ran =
+  pub dense_of_call : (shown : List LogicalType → ℕ → Array → ℕ → Cell) (xs ys : List Array) (m n k : ℕ) (answer : Result Array Fault) (prepares steps : ℕ) → xs ≡ ys → m ≡ n
+      → RanRows k (DenseColumn finish (meaning (types_of xs)) (shown (types_of xs)) (storage (types_of xs)) xs m) (λ e. DecodeFails (reads (types_of xs)) 0 xs e ⊎ EvidenceFails (deferred (types_of xs)) finish (joined join neutral (meaning (types_of xs)) (full_cells xs) m) e) answer prepares steps → Ran k ys n answer prepares steps
+  dense_of_call shown xs ys m n k answer prepares steps e f ran =
       let types = types_of xs in
-      let Dense : Array → Type 0 = DenseColumn (meaning types) neutral (shown types) (storage types) xs m in
-      ran_of_call xs ys m n k l answer prepares steps e f h
-      (ran_all (meaning types) neutral (shown types) (storage types) xs m k k (ReadFails (reads types) 0 xs) answer prepares steps refl
-      (ran_weaker k Dense Dense (DecodeFails (reads types) 0 xs) (ReadFails (reads types) 0 xs) answer prepares steps (λ a d. d) (read_fails (reads types) 0 xs) ran))
+      let Given : Fault → Type 0 = λ v. DecodeFails (reads types) 0 xs v ⊎ EvidenceFails (deferred types) finish (joined join neutral (meaning types) (full_cells xs) m) v in
+      let fails : (v : Fault) → Given v → RowsFail xs m v = λ v h. elim h [
+        | inl d ↦ inl (read_fails (reads types) 0 xs v d)
+        | inr r ↦ inr r
+      ] in
+      ran_of_call xs ys m n k answer prepares steps e f
+      (ran_weaker k (DenseColumn finish (meaning types) (shown types) (storage types) xs m) (ValidColumn finish (meaning types) (storage types) xs m) Given (RowsFail xs m) answer prepares steps
+      (valid_column finish (meaning types) (shown types) (storage types) xs m) fails ran)

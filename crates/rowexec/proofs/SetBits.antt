@@ -1,19 +1,15 @@
 -- A loop over the indices of the true values.
-use Rattle.std.proofs.Common.{◌≡◌, ℕ, zero, suc, ◌+◌, ◌<◌, ◌≢◌, Bool, true, false, List, [], ◌∷◌, length, get_or, slice_set, ap, sym, subst, arith, inl, inr, get_or-set_same, get_or-set_other}
-use Rattle.std.specs.Prelude.{◌⊎◌}
+use Rattle.std.proofs.Common.{◌≡◌, ℕ, suc, ◌+◌, ◌<◌, ◌≤◌, Bool, true, false, List, [], ◌∷◌, length, get_or, slice_set, ap, sym, subst, arith, inl, inr, refl}
 use Rattle.std.proofs.lemmas.Bool.{cases_eq}
 use Rattle.bitlane.specs.Bits.{bit, true_indices, true_indices_from}
-use Rattle.bitlane.specs.Maps.{MapsTo}
+use Rattle.bitlane.specs.Maps.{Joined, MapsTo}
+use Rattle.bitlane.proofs.Joins.{Joined-none}
+use Rattle.rowexec.proofs.WrittenJoins.{joined_write, skip_to}
 
 -- each of these indices is that of a true value
 abbrev pub EachSet : List Bool → List ℕ → Type 0
 EachSet bits [] = Unit {0}
 EachSet bits (i ∷ is) = (i < length bits) × (bit bits i ≡ true) × EachSet bits is
-
--- k is one of these indices, or it is done
-abbrev pub LeftOr : Type 0 → ℕ → List ℕ → Type 0
-LeftOr done k [] = done
-LeftOr done k (i ∷ is) = (k ≡ i) ⊎ LeftOr done k is
 
 set_from : (bits : List Bool) (whole : List Bool) (n : ℕ) → ((k : ℕ) → k < length bits → (n + k < length whole) × (bit whole (n + k) ≡ bit bits k)) → EachSet whole (true_indices_from n bits)
 set_from [] whole n h = tt
@@ -39,44 +35,67 @@ each_set bits is e = rw e (set_from bits bits 0 (λ k lt.
     let from : k ≡ 0 + k = omega arith in
     (subst (λ m. m < length bits) from lt, ap (bit bits) (sym from))))
 
-left_from : (done : Type 0) (bits : List Bool) (n k : ℕ) → bit bits k ≡ true → LeftOr done (n + k) (true_indices_from n bits)
-left_from done [] n k h = absurd (cc)
-left_from done (true ∷ bits) n zero h = inl (omega arith)
-left_from done (true ∷ bits) n (suc k) h = inr (let on : n + 1 + k ≡ n + suc k = omega arith in subst (λ m. LeftOr done m (true_indices_from (n + 1) bits)) on (left_from done bits (n + 1) k h))
-left_from done (false ∷ bits) n zero h = absurd (cc)
-left_from done (false ∷ bits) n (suc k) h = let on : n + 1 + k ≡ n + suc k = omega arith in subst (λ m. LeftOr done m (true_indices_from (n + 1) bits)) on (left_from done bits (n + 1) k h)
+-- each value from n on that stands at none of these rising indices is false
+abbrev pub FalseBetween : List Bool → ℕ → List ℕ → Type 0
+FalseBetween bits n [] = (n ≤ length bits) × ((k : ℕ) → n ≤ k → k < length bits → bit bits k ≡ false)
+FalseBetween bits n (i ∷ is) = (n ≤ i) × ((k : ℕ) → n ≤ k → k < i → bit bits k ≡ false) × FalseBetween bits (i + 1) is
 
--- at the start each true value is left
-pub all_left : (done : Type 0) (bits : List Bool) (is : List ℕ) (k : ℕ) → is ≡ true_indices bits → bit bits k ≡ true → LeftOr done k is
-all_left done bits is k e h = rw e (let from : 0 + k ≡ k = omega arith in subst (λ m. LeftOr done m (true_indices bits)) from (left_from done bits 0 k h))
+false_at : (whole : List Bool) (m n : ℕ) → bit whole n ≡ false → ((k : ℕ) → m ≤ k → k < n → bit whole k ≡ false) → (k : ℕ) → m ≤ k → k < n + 1 → bit whole k ≡ false
+false_at whole m n here below k from to =
+    elim (cases_eq k n) [
+      | inl e ↦ (let Is : ℕ → Type 0 = λ i. bit whole i ≡ false in subst Is (sym e) here)
+      | inr ne ↦ below k from (omega arith)
+    ]
 
-pub is_done : (done : Type 0) (k : ℕ) (is : List ℕ) → done → LeftOr done k is
-is_done done k [] h = h
-is_done done k (i ∷ is) h = inr (is_done done k is h)
+-- bits are the values of whole from n on, and those from m up to n are false
+false_from : (bits whole : List Bool) (m n : ℕ) → m ≤ n → ((k : ℕ) → m ≤ k → k < n → bit whole k ≡ false) → n + length bits ≡ length whole
+    → ((k : ℕ) → k < length bits → bit whole (n + k) ≡ bit bits k) → FalseBetween whole m (true_indices_from n bits)
+false_from [] whole m n le below l same = (omega (arith, l), λ k from to. below k from (omega (arith, l)))
+false_from (true ∷ bits) whole m n le below l same = (
+  le,
+  below,
+  false_from bits whole (n + 1) (n + 1) (omega arith) (λ k from to. absurd (omega arith)) (omega (arith, l)) (λ k lt.
+      let on : n + suc k ≡ n + 1 + k = omega arith in
+      subst (λ i. bit whole i ≡ bit bits k) on (same (suc k) (omega arith))),
+)
+false_from (false ∷ bits) whole m n le below l same =
+    let from : n + 0 ≡ n = omega arith in
+    let here : bit whole n ≡ false = subst (λ i. bit whole i ≡ false) from (same 0 (omega arith)) in
+    false_from bits whole m (n + 1) (omega arith) (false_at whole m n here below) (omega (arith, l)) (λ k lt.
+    let on : n + suc k ≡ n + 1 + k = omega arith in
+    subst (λ i. bit whole i ≡ bit bits k) on (same (suc k) (omega arith)))
 
-pub still : (done more : Type 0) (k : ℕ) (is : List ℕ) → (done → more) → LeftOr done k is → LeftOr more k is
-still done more k [] f h = f h
-still done more k (i ∷ is) f (inl e) = inl e
-still done more k (i ∷ is) f (inr h) = inr (still done more k is f h)
+false_between : (bits : List Bool) → FalseBetween bits 0 (true_indices bits)
+false_between bits = false_from bits bits 0 0 (omega arith) (λ k from to. absurd (omega arith)) (omega arith) (λ k lt. let from : 0 + k ≡ k = omega arith in ap (bit bits) from)
 
--- nothing is left
-pub none_left : (done : Type 0) (k : ℕ) (is : List ℕ) → is ≡ [] → LeftOr done k is → done
-none_left done k is e h = rw e at h
+-- the evidence at the true values before the remaining indices is joined
+pub record JoinedSoFar {V : Type 0} (join : V → V → V) (neutral : V) (bits : List Bool) (IsAt : ℕ → V → Type 0) (remaining : List ℕ) (total : V) : Type 0 where
+  pub passed : ℕ
+  pub between : FalseBetween bits passed remaining
+  pub joined : Joined join neutral (bit bits) IsAt passed total
 
--- what stands at k after a write at i, where k is i, or was written before
-pub write_here : {X R : Type 0} (may_be : ℕ → X → Type 0) (post : X → R → Type 0) (out : List R) (i k : ℕ) (x : X) (r : R) → i < length out → may_be k x → post x r → k ≡ i → (d : R) → MapsTo (may_be k) post (get_or (slice_set out i r) k d)
-write_here may_be post out i k x r lt stands answer e d =
-    subst (λ m. MapsTo (may_be k) post (get_or (slice_set out i r) m d)) (sym e)
-    (subst (λ y. MapsTo (may_be k) post y) (sym (get_or-set_same out i r d lt)) (record { item = x; stands = stands; answer = answer }))
+pub joined_start : {V : Type 0} (join : V → V → V) (neutral : V) (bits : List Bool) (IsAt : ℕ → V → Type 0) (is : List ℕ) (total : V) → is ≡ true_indices bits → total ≡ neutral → JoinedSoFar join neutral bits IsAt is total
+joined_start join neutral bits IsAt is total e t = record {
+  passed = 0;
+  between = rw e (false_between bits);
+  joined = Joined-none join neutral (bit bits) IsAt total t;
+}
 
-pub write_there : {X R : Type 0} (may_be : X → Type 0) (post : X → R → Type 0) (out : List R) (i k : ℕ) (r : R) → k ≢ i → ((d : R) → MapsTo may_be post (get_or out k d)) → (d : R) → MapsTo may_be post (get_or (slice_set out i r) k d)
-write_there may_be post out i k r ne before d = subst (λ y. MapsTo may_be post y) (sym (get_or-set_other out i k r d ne)) (before d)
+pub joined_end : {V : Type 0} (join : V → V → V) (neutral : V) (bits : List Bool) (IsAt : ℕ → V → Type 0) (is : List ℕ) (total : V) → is ≡ [] → JoinedSoFar join neutral bits IsAt is total → Joined join neutral (bit bits) IsAt (length bits) total
+joined_end join neutral bits IsAt [] total e j = skip_to join neutral (bit bits) IsAt j.passed (length bits) total j.between.0 j.between.1 j.joined
+joined_end join neutral bits IsAt (i ∷ is) total e j = absurd (cc)
 
-write_again : {X R : Type 0} (may_be : ℕ → X → Type 0) (post : X → R → Type 0) (out : List R) (i k : ℕ) (x : X) (r : R) → i < length out → may_be i x → post x r → (k ≡ i) ⊎ (k ≢ i) → ((d : R) → MapsTo (may_be k) post (get_or out k d)) → (d : R) → MapsTo (may_be k) post (get_or (slice_set out i r) k d)
-write_again may_be post out i k x r lt stands answer (inl e) before = write_here may_be post out i k x r lt (subst (λ m. may_be m x) (sym e) stands) answer e
-write_again may_be post out i k x r lt stands answer (inr ne) before = write_there (may_be k) post out i k r ne before
-
--- one step of a loop that writes the answer to the item at i there
-pub write_step : {X R : Type 0} (may_be : ℕ → X → Type 0) (post : X → R → Type 0) (out : List R) (i k : ℕ) (is : List ℕ) (x : X) (r : R) → i < length out → may_be i x → post x r → LeftOr ((d : R) → MapsTo (may_be k) post (get_or out k d)) k (i ∷ is) → LeftOr ((d : R) → MapsTo (may_be k) post (get_or (slice_set out i r) k d)) k is
-write_step may_be post out i k is x r lt stands answer (inl e) = is_done _ k is (write_here may_be post out i k x r lt (subst (λ m. may_be m x) (sym e) stands) answer e)
-write_step may_be post out i k is x r lt stands answer (inr h) = still _ _ k is (write_again may_be post out i k x r lt stands answer (cases_eq k i)) h
+-- one step of a loop that writes the value of an answer to the item at i there, and joins its evidence
+pub valid_step : {X T E : Type 0} (item_at : ℕ → X → Type 0) (post : X → T × E → Type 0) (join : E → E → E) (neutral : E) (bits : List Bool)
+    (out : List T) (i : ℕ) (is : List ℕ) (total : E) → i < length out → bit bits i ≡ true
+    → JoinedSoFar join neutral bits (λ k e. (d : T) → MapsTo (item_at k) post (get_or out k d, e)) (i ∷ is) total
+    → (x : X) → item_at i x → (r : T × E) → post x r → (next : E) → next ≡ join total r.1
+    → JoinedSoFar join neutral bits (λ k e. (d : T) → MapsTo (item_at k) post (get_or (slice_set out i r.0) k d, e)) is next
+valid_step {X} {T} {E} item_at post join neutral bits out i is total within set so_far x stands r answer next e =
+    let Before : ℕ → E → Type 0 = λ k v. (d : T) → MapsTo (item_at k) post (get_or out k d, v) in
+    record {
+      passed = i + 1;
+      between = so_far.between.2;
+      joined = joined_write item_at post join neutral (bit bits) (λ k. k) out i i total within refl (λ k below. omega arith) set
+          (skip_to join neutral (bit bits) Before so_far.passed i total so_far.between.0 so_far.between.1 so_far.joined) x stands r answer next e;
+    }

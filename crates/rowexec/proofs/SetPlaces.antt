@@ -1,12 +1,11 @@
 -- The places of the true values, in their order.
-use Rattle.std.proofs.Common.{◌≡◌, ◌∙◌, ℕ, zero, suc, ◌+◌, ◌<◌, ◌≤◌, ◌≢◌, Bool, true, false, List, [], ◌∷◌, length, get_or, slice_set, ap, sym, subst, arith, inl, inr, refl}
-use Rattle.std.specs.Prelude.{◌⊎◌, count_by}
-use Rattle.std.proofs.lemmas.Bool.{cases_eq}
+use Rattle.std.proofs.Common.{◌≡◌, ◌∙◌, ℕ, zero, suc, ◌+◌, ◌<◌, ◌≤◌, ◌≢◌, Bool, true, false, List, [], ◌∷◌, length, get_or, slice_set, ap, sym, subst, arith, refl}
+use Rattle.std.specs.Prelude.{count_by}
 use Rattle.bitlane.specs.Bits.{bit, true_indices, true_indices_from}
-use Rattle.bitlane.specs.Maps.{MapsTo}
+use Rattle.bitlane.specs.Maps.{Joined, MapsTo}
 use Rattle.colbase.specs.Keep.{place, trues}
 use Rattle.colbase.proofs.KeptRows.{trues-count_by}
-use Rattle.rowexec.proofs.SetBits.{write_here, write_there}
+use Rattle.rowexec.proofs.WrittenJoins.{joined_write}
 
 pub place_within : (bits : List Bool) (j : ℕ) → j < trues bits → place bits j < length bits
 place_within [] j h = absurd (omega arith)
@@ -70,15 +69,18 @@ places_from (false ∷ bits) whole n j e h = places_from bits whole (n + 1) j e 
 pub places_start : (bits : List Bool) (is : List ℕ) → is ≡ true_indices bits → PlacesFrom bits 0 is
 places_start bits is e = rw e (places_from bits bits 0 0 (omega arith) (λ k lt. let from : 0 + k ≡ k = omega arith in let to : place bits k ≡ 0 + place bits k = omega arith in ap (place bits) from ∙ to))
 
--- one step of a loop that writes the answer to item j at the place of the true value number j
-write_next : {X R : Type 0} (may_be : ℕ → X → Type 0) (post : X → R → Type 0) (bits : List Bool) (out : List R) (i j k : ℕ) (x : X) (r : R) → i ≡ place bits j → j < count_by (λ b. b) bits → i < length out → may_be j x → post x r → ((m : ℕ) (d : R) → m < j → MapsTo (may_be m) post (get_or out (place bits m) d)) → k < j + 1 → (k ≡ j) ⊎ (k ≢ j) → (d : R) → MapsTo (may_be k) post (get_or (slice_set out i r) (place bits k) d)
-write_next may_be post bits out i j k x r e h lt stands answer before below (inl s) d =
-    let same : place bits k ≡ i = ap (place bits) s ∙ sym e in
-    subst (λ m. MapsTo (may_be k) post (get_or (slice_set out i r) m d)) (sym same) (write_here (λ m. may_be k) post out i i x r lt (subst (λ m. may_be m x) (sym s) stands) answer refl d)
-write_next may_be post bits out i j k x r e h lt stands answer before below (inr ne) d =
-    let earlier : k < j = omega arith in
-    let apart : place bits k ≢ i = omega (arith, place_rises bits k j earlier (omega (arith, trues-count_by bits))) in
-    write_there (may_be k) post out i (place bits k) r apart (λ v. before k v earlier) d
+-- at the end each true value is counted
+pub places_end : (bits : List Bool) (j : ℕ) (is : List ℕ) → is ≡ [] → PlacesFrom bits j is → j ≡ count_by (λ b. b) bits
+places_end bits j [] e h = h
+places_end bits j (i ∷ is) e h = absurd (cc)
 
-pub place_step : {X R : Type 0} (may_be : ℕ → X → Type 0) (post : X → R → Type 0) (bits : List Bool) (out : List R) (i j : ℕ) (x : X) (r : R) → i ≡ place bits j → j < count_by (λ b. b) bits → i < length out → may_be j x → post x r → ((m : ℕ) (d : R) → m < j → MapsTo (may_be m) post (get_or out (place bits m) d)) → (k : ℕ) (d : R) → k < j + 1 → MapsTo (may_be k) post (get_or (slice_set out i r) (place bits k) d)
-place_step may_be post bits out i j x r e h lt stands answer before k d below = write_next may_be post bits out i j k x r e h lt stands answer before below (cases_eq k j) d
+-- one step of a loop that writes the value of an answer to item j at the place of the true value number j, and joins its evidence
+pub place_step : {X T E : Type 0} (item_at : ℕ → X → Type 0) (post : X → T × E → Type 0) (join : E → E → E) (neutral : E) (bits : List Bool)
+    (out : List T) (i j : ℕ) (total : E) → i < length out → i ≡ place bits j → j < count_by (λ b. b) bits
+    → Joined join neutral (λ _. true) (λ k e. (d : T) → MapsTo (item_at k) post (get_or out (place bits k) d, e)) j total
+    → (x : X) → item_at j x → (r : T × E) → post x r → (next : E) → next ≡ join total r.1
+    → Joined join neutral (λ _. true) (λ k e. (d : T) → MapsTo (item_at k) post (get_or (slice_set out i r.0) (place bits k) d, e)) (j + 1) next
+place_step item_at post join neutral bits out i j total within is_place counted so_far x stands r answer next e =
+    let apart : (k : ℕ) → k < j → place bits k ≢ i =
+    λ k below. omega (arith, is_place, place_rises bits k j below (omega (arith, counted, trues-count_by bits))) in
+    joined_write item_at post join neutral (λ _. true) (place bits) out j i total within (sym is_place) apart refl so_far x stands r answer next e

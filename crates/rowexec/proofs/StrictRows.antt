@@ -13,22 +13,21 @@ use Rattle.rowtypes.specs.Rows.{AcceptsFrom, first_refused, logical_types}
 use Rattle.rowplan.specs.Outcomes.{Outcome}
 use Rattle.rowplan.specs.Outputs.{InOrder, any_nullable, made_nullable, output_type, stated_type}
 use Rattle.rowexec.specs.Masks.{null_unless}
-use Rattle.rowexec.specs.Rows.{EachHasRows, StrictRow, types_of, wrong_length}
-use Rattle.rowexec.specs.Visits.{DoneRow}
+use Rattle.rowexec.specs.Rows.{Accepted, EachHasRows, StrictRow, types_of, wrong_length}
 use Rattle.rowexec.proofs.Masking.{nullable_made}
 
 pub as_many : (types : List DType) → length (logical_types types) ≡ length types
 as_many [] = refl
 as_many (t ∷ types) = ap suc (as_many types)
 
-pub strict_row : {E : Type 0} (finish : E → Option ℕ) (meaning : List Cell → Outcome E) (neutral : E) (cells : Option (List Cell)) (b : Bool) (r w : Option Cell) → finish neutral ≡ None → b ≡ is_some cells → r ≡ null_unless b w → ((cs : List Cell) → cells ≡ Some cs → DoneRow meaning neutral cs w) → StrictRow finish meaning cells r
-strict_row finish meaning neutral None b r w fin hb hr d = hr ∙ ap (λ t. null_unless t w) hb
-strict_row finish meaning neutral (Some cs) b r w fin hb hr d = record {
+pub strict_row : {E : Type 0} (finish : E → Option ℕ) (meaning : List Cell → Outcome E) (cells : Option (List Cell)) (b : Bool) (r w : Option Cell) → b ≡ is_some cells → r ≡ null_unless b w → ((cs : List Cell) → cells ≡ Some cs → Accepted finish (meaning cs) w) → StrictRow finish meaning cells r
+strict_row finish meaning None b r w hb hr d = hr ∙ ap (λ t. null_unless t w) hb
+strict_row finish meaning (Some cs) b r w hb hr d = record {
   cell = (d cs refl).cell;
-  evidence = neutral;
+  evidence = (d cs refl).evidence;
   is = hr ∙ ap (λ t. null_unless t w) hb ∙ (d cs refl).is;
-  outcome_is = (d cs refl).outcome;
-  accepted = fin;
+  outcome_is = (d cs refl).outcome_is;
+  accepted = (d cs refl).accepted;
 }
 
 pub null_row : {E : Type 0} (finish : E → Option ℕ) (meaning : List Cell → Outcome E) (cells : Option (List Cell)) (r : Option Cell) → cells ≡ None → r ≡ None → StrictRow finish meaning cells r

@@ -1,14 +1,12 @@
 -- A column of the places that a loop wrote.
 use Rattle.std.proofs.Common.{◌≡◌, ◌∙◌, ℕ, ◌<◌, List, length, get_or, map, take, Option, Some, ap, sym, subst}
-use Rattle.std.specs.Prelude.{replicate, Result, IfOk, IsSome, is_some}
+use Rattle.std.specs.Prelude.{replicate, IsSome, is_some}
 use Rattle.std.proofs.lemmas.List.{length-replicate}
 use Rattle.colbase.specs.Arrays.{Array, column, len, row}
 use Rattle.colbase.specs.Cell.{Cell}
 use Rattle.colbase.specs.LogicalType.{LogicalType}
-use Rattle.colbase.specs.declared.fault.Fault.{Fault}
 use Rattle.rowtypes.specs.Outputs.{full_column}
 use Rattle.rowtypes.proofs.Columns.{all-places, full-len, full-row}
-use Rattle.rowexec.proofs.Results.{ok_then}
 
 -- the rows are the cells of these values
 pub record RowsAre {X : Type 0} (cell : X → Cell) (xs : List X) (d : X) (n : ℕ) (a : Array) : Type 0 where
@@ -16,21 +14,15 @@ pub record RowsAre {X : Type 0} (cell : X → Cell) (xs : List X) (d : X) (n : �
   pub each : (i : ℕ) → i < n → row a i ≡ Some (cell (get_or xs i d))
 
 -- of n places, which were lent, written and finished; m is n, as a caller counts it
-pub written : {X : Type 0} (t : LogicalType) (cell : X → Cell) (d : X) (lent before xs after : List X) (n m : ℕ) (r : Result Array Fault) → before ≡ replicate n d → lent ≡ before → length xs ≡ length lent → n ≡ m → (length xs ≡ length before → after ≡ xs) → IfOk r (λ a. column a ≡ full_column t (map cell (take n after))) → IfOk r (RowsAre cell xs d m)
-written t cell d lent before xs after n m r p q h e back f =
+pub written : {X : Type 0} (t : LogicalType) (cell : X → Cell) (d : X) (lent before xs after : List X) (n m : ℕ) (a : Array) → before ≡ replicate n d → lent ≡ before → length xs ≡ length lent → n ≡ m → (length xs ≡ length before → after ≡ xs) → column a ≡ full_column t (map cell (take n after)) → RowsAre cell xs d m a
+written t cell d lent before xs after n m a p q h e back g =
     let k : length xs ≡ length before = h ∙ ap length q in
     let c : length xs ≡ n = k ∙ ap length p ∙ length-replicate n d in
-    ok_then
-    (λ a. column a ≡ full_column t (map cell (take n after)))
-    (RowsAre cell xs d m)
-    r
-    (λ a g.
     let whole : column a ≡ full_column t (map cell xs) = g ∙ ap (λ ys. full_column t (map cell ys)) (all-places after xs n (back k) c) in
     record {
       counted = full-len a t cell xs whole ∙ c ∙ e;
       each = λ i lt. full-row a t cell xs i d whole (subst (λ j. i < j) (sym (c ∙ e)) lt);
-    })
-    f
+    }
 
 pub some_there : {X : Type 0} (o : Option X) (x : X) → o ≡ Some x → IsSome o
 some_there o x e = ap is_some e

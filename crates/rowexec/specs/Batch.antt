@@ -37,7 +37,7 @@ Misfits arity n columns e = ((length columns ≢ arity) × (e ≡ Arity arity (l
 abbrev pub Unplanned : Bool → (ℕ → LogicalType → Bool) → Output → List LogicalType → Fault → Type 0
 Unplanned accepts fits output types e = ((accepts ≡ false) × (e ≡ Refused)) ⊎ ((accepts ≡ true) × (((k : ℕ) × (first_refused fits 0 types ≡ Some k) × (e ≡ Dtype k)) ⊎ ((first_refused fits 0 types ≡ None) × (e ≡ OutputType) × (InOrder output.storage output.label → ⊥))))
 
--- why a call is refused, in order; a cell that isn't read is told only where the call isn't settled before
-abbrev pub Cause : ℕ → ℕ → List Array → Bool → (ℕ → LogicalType → Bool) → Output → RowPolicy → (ℕ → Cell → Type 0) → Fault → Type 0
-Cause arity n columns accepts fits output policy reads e =
-    Misfits arity n columns e ⊎ (Fits arity n columns × ((e ≡ Memory) ⊎ (Unplanned accepts fits output (types_of columns) e ⊎ (Planned accepts fits output (types_of columns) × (settled policy n columns ≡ false) × ReadFails reads 0 columns e))))
+-- why a call is refused, in order; a cell that isn't read, and a failure of rows, are told only where the call isn't settled before
+abbrev pub Cause : ℕ → ℕ → List Array → Bool → (ℕ → LogicalType → Bool) → Output → RowPolicy → (ℕ → Cell → Type 0) → (Fault → Type 0) → Fault → Type 0
+Cause arity n columns accepts fits output policy reads RowsFail e =
+    Misfits arity n columns e ⊎ (Fits arity n columns × ((e ≡ Memory) ⊎ (Unplanned accepts fits output (types_of columns) e ⊎ (Planned accepts fits output (types_of columns) × (settled policy n columns ≡ false) × (ReadFails reads 0 columns e ⊎ RowsFail e)))))

@@ -1,7 +1,8 @@
 -- How many rows a batch runs.
-use Rattle.std.specs.Prelude.{ℕ, Bool, ◌&&◌, ◌||◌, ◌==◌, true, false, List, [], ◌∷◌, nat_lt, is_some, if◌then◌else◌}
+use Rattle.std.specs.Prelude.{ℕ, ◌+◌, Option, Bool, ◌&&◌, ◌||◌, ◌==◌, true, false, List, [], ◌∷◌, nat_lt, is_some, if◌then◌else◌}
 use Rattle.bitlane.specs.Bits.{tabulate}
 use Rattle.colbase.specs.Arrays.{Array}
+use Rattle.colbase.specs.Cell.{Cell}
 use Rattle.colbase.specs.Keep.{trues}
 use Rattle.colbase.specs.Parts.{own_validity}
 use Rattle.colbase.specs.Valid.{validity_kind}
@@ -10,6 +11,8 @@ use Rattle.colbase.specs.declared.validity.ValidityKind.TheVariants.{AllNull, No
 use Rattle.rowtypes.specs.Shown.{batch_value}
 use Rattle.rowplan.specs.declared.batch_plan.RowPolicy.{RowPolicy}
 use Rattle.rowplan.specs.declared.batch_plan.RowPolicy.TheVariants.{Dense, DenseWithRetry, ValidOnly}
+use Rattle.rowplan.specs.Outcomes.{Outcome}
+use Rattle.rowexec.specs.Evidence.{is_accepted, joined, shown_cells}
 use Rattle.rowexec.specs.Rows.{full_cells, some_all_null}
 
 abbrev pub is_no_nulls : ValidityKind → Bool
@@ -42,13 +45,29 @@ runs_valid_only Dense = false
 runs_valid_only DenseWithRetry = false
 runs_valid_only ValidOnly = true
 
--- the rows that a policy runs of n rows
-abbrev pub policy_steps : RowPolicy → ℕ → List Array → ℕ
-policy_steps policy n columns = if runs_valid_only policy then trues (full_bits n columns) else n
+-- the full rows of n rows that run once more after all rows: none where all of them are full
+abbrev pub retried : ℕ → ℕ → ℕ
+retried full n = if full == n then 0 else full
+
+-- the rows that a policy runs of n rows, by whether the evidence of a run of all rows is accepted
+abbrev pub policy_steps : RowPolicy → Bool → ℕ → List Array → ℕ
+policy_steps Dense accepted n columns = n
+policy_steps DenseWithRetry accepted n columns = if accepted then n else n + retried (trues (full_bits n columns)) n
+policy_steps ValidOnly accepted n columns = trues (full_bits n columns)
 
 -- the rows that a batch of n rows runs: none where some column is told to be null at each row, one where one stands for all, and else those of the policy
-abbrev pub steps_asked : RowPolicy → ℕ → List Array → ℕ
-steps_asked policy n columns = if some_all_null columns then 0 else if one_row n columns then 1 else policy_steps policy n columns
+abbrev pub steps_asked : RowPolicy → Bool → ℕ → List Array → ℕ
+steps_asked policy accepted n columns = if some_all_null columns then 0 else if one_row n columns then 1 else policy_steps policy accepted n columns
+
+-- whether the evidence of a run of all n rows on what the columns show is accepted
+abbrev pub dense_accepted : {E : Type 0} → (E → Option ℕ) → (E → E → E) → E → (List Cell → Outcome E) → (ℕ → Array → ℕ → Cell) → List Array → ℕ → Bool
+dense_accepted finish join neutral meaning shown columns n = is_accepted (finish (joined join neutral meaning (shown_cells shown columns) n))
+
+-- the calls of `prepare` at most
+abbrev pub most_prepares : RowPolicy → ℕ
+most_prepares Dense = 1
+most_prepares DenseWithRetry = 2
+most_prepares ValidOnly = 1
 
 -- nothing is decoded: some column is told to be null at each row, or the policy runs the rows without a null alone and none of the rows is such
 abbrev pub settled : RowPolicy → ℕ → List Array → Bool

@@ -1,6 +1,8 @@
+pub mod Answers
 pub mod Batch
 pub mod Calls
 pub mod Counts
+pub mod Evidence
 pub mod Masks
 pub mod Reads
 pub mod Rows

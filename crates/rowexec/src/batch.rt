@@ -8,6 +8,7 @@ mod finish;
 mod full_rows;
 mod one_row;
 mod plan;
+mod retry;
 mod selection;
 mod valid;
 

@@ -11,6 +11,7 @@ pub trait RowEngine {
     ghost use Rattle.colbase.specs.declared.fault.Fault.TheVariants.{Arity};
     ghost use Rattle.rowexec.specs.Batch.{Cause, Fits, Planned, StatedAs};
     ghost use Rattle.rowexec.specs.Calls.{Raised};
+    ghost use Rattle.rowexec.specs.Evidence.{EvidenceFails, joined};
     ghost use Rattle.rowexec.specs.Rows.{StrictRow, full_cells, types_of};
 
     // How often it was called. It never falls, and its last value is 2^64 - 1.
@@ -31,7 +32,7 @@ pub trait RowEngine {
         ensures dtype { IfOk result (λ a. StatedAs (F.output options.now (types_of args.now.columns)) (types_of args.now.columns) (dtype a)) }
         ensures len { IfOk result (λ a. len a ≡ args.now.row_count) }
         ensures rows { IfOk result (λ a. (i : ℕ) → i < args.now.row_count → StrictRow F.finish (F.meaning options.now (types_of args.now.columns)) (full_cells args.now.columns i) (row a i)) }
-        ensures errors { IfErr result (Cause F.arity args.now.row_count args.now.columns (F.accepts options.now (types_of args.now.columns)) (F.fits options.now (types_of args.now.columns)) (F.output options.now (types_of args.now.columns)) (F.policy options.now (types_of args.now.columns)) (F.reads options.now (types_of args.now.columns))) };
+        ensures errors { IfErr result (Cause F.arity args.now.row_count args.now.columns (F.accepts options.now (types_of args.now.columns)) (F.fits options.now (types_of args.now.columns)) (F.output options.now (types_of args.now.columns)) (F.policy options.now (types_of args.now.columns)) (F.reads options.now (types_of args.now.columns)) (EvidenceFails (F.deferred options.now (types_of args.now.columns)) F.finish (joined F.Evidence.join F.Evidence.neutral (F.meaning options.now (types_of args.now.columns)) (full_cells args.now.columns) args.now.row_count))) };
 }
 
 /// The engine that calls [`execute_rows`], and counts its calls.

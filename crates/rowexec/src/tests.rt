@@ -2,6 +2,7 @@
 mod batches;
 mod columns;
 mod constants;
+mod counting;
 mod counts;
 mod elements;
 mod functions;
@@ -9,5 +10,7 @@ mod labels;
 mod loops;
 mod prepared;
 mod refusals;
+mod retry;
+mod truths;
 mod valid;
 mod vtable;

@@ -1,9 +1,11 @@
 //! The visitors that run a row function.
+mod dense_with_retry;
 mod execute;
 mod filtered_rows;
 mod valid_rows;
 mod visited;
 
+pub(crate) use dense_with_retry::ExecuteDenseWithRetry;
 pub(crate) use execute::ExecuteRows;
 pub(crate) use filtered_rows::ExecuteFilteredRows;
 pub(crate) use valid_rows::ExecuteValidRows;

@@ -6,6 +6,7 @@ ghost use Rattle.colbase.specs.Masks.{mask_bits};
 ghost use Rattle.colbase.specs.declared.fault.Fault.TheVariants.{Arity, Memory};
 ghost use Rattle.rowtypes.specs.Rows.{logical_types};
 ghost use Rattle.rowexec.specs.Batch.{Cause, Fits, Misfits, Planned, StatedAs, Unplanned};
+ghost use Rattle.rowexec.specs.Evidence.{EvidenceFails, joined};
 ghost use Rattle.rowexec.specs.Rows.{StrictRow, full_cells, types_of};
 
 use crate::batch::{execute_rows, full_mask, row_fn_return_dtype};
@@ -57,7 +58,7 @@ impl<F: RowFn> RowFnVTable<F> {
         ensures dtype { IfOk result (λ a. StatedAs (F.output options.now (types_of args.now.columns)) (types_of args.now.columns) (dtype a)) }
         ensures len { IfOk result (λ a. len a ≡ args.now.row_count) }
         ensures rows { IfOk result (λ a. (i : ℕ) → i < args.now.row_count → StrictRow F.finish (F.meaning options.now (types_of args.now.columns)) (full_cells args.now.columns i) (row a i)) }
-        ensures errors { IfErr result (Cause F.arity args.now.row_count args.now.columns (F.accepts options.now (types_of args.now.columns)) (F.fits options.now (types_of args.now.columns)) (F.output options.now (types_of args.now.columns)) (F.policy options.now (types_of args.now.columns)) (F.reads options.now (types_of args.now.columns))) }
+        ensures errors { IfErr result (Cause F.arity args.now.row_count args.now.columns (F.accepts options.now (types_of args.now.columns)) (F.fits options.now (types_of args.now.columns)) (F.output options.now (types_of args.now.columns)) (F.policy options.now (types_of args.now.columns)) (F.reads options.now (types_of args.now.columns)) (EvidenceFails (F.deferred options.now (types_of args.now.columns)) F.finish (joined F.Evidence.join F.Evidence.neutral (F.meaning options.now (types_of args.now.columns)) (full_cells args.now.columns) args.now.row_count))) }
     {
         execute_rows(&self.0, options, args, ctx)
     }

@@ -17,7 +17,9 @@ use colbase::{
 use functions::{Labelled, Picky, Seven};
 use std::test::Fail;
 
+mod deferred;
 mod functions;
+mod policies;
 
 fn full(ptype: PType) -> DType
     ensures { logical_type result ≡ primitive ptype NonNullable }

@@ -1,11 +1,13 @@
 -- A scalar is its type and its value.
 use Rattle.std.proofs.Common.{◌≡◌, ℤ, Bool, true, false, Option, Some, None, refl, sym, ap, ◌∙◌}
-use Rattle.std.specs.Prelude.{option_map, IsTrue, ◌↔◌}
+use Rattle.std.specs.Prelude.{option_map, is_some, if◌then◌else◌, IsTrue, ◌↔◌}
 use mathlib.Core.Bool.{Bool-set}
-use Rattle.colbase.specs.declared.dtype.DType.{DType, ind-DType, fold-roll-DType, roll-DType}
+use Rattle.serde_json.specs.Data.{Data}
+use Rattle.serde_json.specs.Find.{as_null}
+use Rattle.colbase.specs.declared.dtype.DType.{DType, fold-roll-DType}
 use Rattle.colbase.specs.declared.dtype.DType.TheVariants as dtypes
-use Rattle.colbase.specs.declared.dtype.DType.TheOpen.{DType-F, ExtDType-F}
-use Rattle.colbase.specs.declared.dtype.DType.TheFolds.{fold_out-ExtDType}
+use Rattle.colbase.specs.declared.dtype.DType.TheOpen.{DType-F}
+use Rattle.colbase.specs.declared.dtype.ExtDType.{ExtDType}
 use Rattle.colbase.specs.declared.dtype.PType.{PType}
 use Rattle.colbase.specs.declared.dtype.Nullability.{Nullability}
 use Rattle.colbase.specs.declared.dtype.Nullability.TheVariants.{Nullable, NonNullable}
@@ -13,13 +15,15 @@ use Rattle.colbase.specs.declared.scalar.Scalar.{Scalar}
 use Rattle.colbase.specs.declared.scalar.ScalarValue.{ScalarValue, ind-ScalarValue, fold-roll-ScalarValue, roll-ScalarValue}
 use Rattle.colbase.specs.declared.scalar.ScalarValue.TheVariants as values
 use Rattle.colbase.specs.declared.scalar.ScalarValue.TheOpen.{ScalarValue-F}
-use Rattle.colbase.specs.Cell.{Cell, truth, number}
+use Rattle.colbase.specs.Cell.{Cell, truth, number, bytes, list}
 use Rattle.colbase.specs.CellOf.{cell_of, cell_step}
-use Rattle.colbase.specs.Fits.{fits, in_range, is_nullable}
-use Rattle.colbase.specs.LogicalType.{LogicalType, bool, primitive, extension}
-use Rattle.colbase.specs.LogicalTypeOf.{logical_type, type_step, extension_step}
-use Rattle.rowrun.specs.Types.{as_bool_type, as_integer_type}
-use Rattle.rowrun.specs.Scalars.{is_of_type, scalar_if, scalar_of}
+use Rattle.colbase.specs.Fits.{fits, fits_type, in_range, is_nullable}
+use Rattle.colbase.specs.LogicalType.{LogicalType, bool, primitive}
+use Rattle.colbase.specs.LogicalTypeOf.{logical_type, extension_type, type_step, extension_step}
+use Rattle.rowrun.specs.DtypeOf.{dtype_of}
+use Rattle.rowrun.specs.Objects.{◌>>=◌, value_or_null}
+use Rattle.rowrun.specs.Scalars.{is_of_type, scalar_if, scalar_of, scalar_in, value_under}
+use Rattle.rowrun.proofs.ExactTypes.{dtype_exact, dtype_from, extension_exact, extension_logical}
 
 -- ---- the scalar that parts state
 
@@ -55,45 +59,10 @@ not_nullable Nullable b is e = let yes : b ≡ true = is.1 refl in absurd (cc)
 pub null_refused : (t : DType) → is_of_type t None ≡ false → None ≡ scalar_of t None
 null_refused t is = refused t None is
 
--- ---- types and values by what they stand for
+-- ---- values by the cells that they are
 
-abbrev TypeLayer : Type 0
-TypeLayer = DType-F DType (ExtDType-F DType (Unit {0}))
-
-type_of_extension : (x : ExtDType-F DType (Unit {0})) → logical_type (roll-DType (DType-F.Extension x)) ≡ extension x.name x.unit x.zone (logical_type x.storage)
-type_of_extension x = fold-roll-DType LogicalType LogicalType type_step extension_step (DType-F.Extension x) ∙ fold_out-ExtDType LogicalType LogicalType type_step extension_step x
-
-not_some : {X : Type 0} (x : X) → None ≡ Some x → ⊥
-not_some x e = cc
-
-bool_same : (m n : Nullability) → bool m ≡ bool n → m ≡ n
-bool_same m n e = cc
-
-truth_layer : (n : Nullability) (x : TypeLayer) → logical_type (roll-DType x) ≡ bool n → roll-DType x ≡ dtypes.Bool n
-truth_layer n (DType-F.Bool m) e =
-    let same : bool m ≡ bool n = sym (fold-roll-DType LogicalType LogicalType type_step extension_step (DType-F.Bool m)) ∙ e in
-    dtypes.rolls-Bool m ∙ ap dtypes.Bool (bool_same m n same)
-truth_layer n (DType-F.Extension x) e = absurd (not_some n (ap as_bool_type (sym (type_of_extension x) ∙ e)))
-truth_layer n x e = absurd (not_some n (ap as_bool_type (sym (fold-roll-DType LogicalType LogicalType type_step extension_step x) ∙ e)))
-
-truth_type : (t : DType) (n : Nullability) → logical_type t ≡ bool n → t ≡ dtypes.Bool n
-truth_type t n = ind-DType (λ u. logical_type u ≡ bool n → u ≡ dtypes.Bool n) (λ e. Unit {0}) (λ x y is. truth_layer n x) (λ x y is. tt) t
-
-primitive_ptype : (p q : PType) (m n : Nullability) → primitive p m ≡ primitive q n → p ≡ q
-primitive_ptype p q m n e = cc
-
-primitive_null : (p q : PType) (m n : Nullability) → primitive p m ≡ primitive q n → m ≡ n
-primitive_null p q m n e = cc
-
-number_layer : (p : PType) (n : Nullability) (x : TypeLayer) → logical_type (roll-DType x) ≡ primitive p n → roll-DType x ≡ dtypes.Primitive p n
-number_layer p n (DType-F.Primitive q m) e =
-    let same : primitive q m ≡ primitive p n = sym (fold-roll-DType LogicalType LogicalType type_step extension_step (DType-F.Primitive q m)) ∙ e in
-    dtypes.rolls-Primitive q m ∙ ap (λ r. dtypes.Primitive r m) (primitive_ptype q p m n same) ∙ ap (λ k. dtypes.Primitive p k) (primitive_null q p m n same)
-number_layer p n (DType-F.Extension x) e = absurd (not_some (p, n) (ap as_integer_type (sym (type_of_extension x) ∙ e)))
-number_layer p n x e = absurd (not_some (p, n) (ap as_integer_type (sym (fold-roll-DType LogicalType LogicalType type_step extension_step x) ∙ e)))
-
-number_type : (t : DType) (p : PType) (n : Nullability) → logical_type t ≡ primitive p n → t ≡ dtypes.Primitive p n
-number_type t p n = ind-DType (λ u. logical_type u ≡ primitive p n → u ≡ dtypes.Primitive p n) (λ e. Unit {0}) (λ x y is. number_layer p n x) (λ x y is. tt) t
+some_same : {X : Type 0} (a b : X) → Some a ≡ Some b → a ≡ b
+some_same a b e = cc
 
 truth_same : (a b : Bool) → truth a ≡ truth b → a ≡ b
 truth_same a b e = cc
@@ -103,9 +72,6 @@ truth_cell b (ScalarValue-F.Bool a) e =
     let same : truth a ≡ truth b = sym (fold-roll-ScalarValue Cell cell_step (ScalarValue-F.Bool a)) ∙ e in
     values.rolls-Bool a ∙ ap values.Bool (truth_same a b same)
 truth_cell b x e = let no = sym (fold-roll-ScalarValue Cell cell_step x) ∙ e in absurd (cc)
-
-some_same : (a b : Cell) → Some a ≡ Some b → a ≡ b
-some_same a b e = cc
 
 truth_value : (v : Option ScalarValue) (b : Bool) → option_map cell_of v ≡ Some (truth b) → v ≡ Some (values.Bool b)
 truth_value None b e = absurd (cc)
@@ -125,13 +91,85 @@ number_value None z e = absurd (cc)
 number_value (Some v) z e = ap Some (ind-ScalarValue (λ u. cell_of u ≡ number z → u ≡ values.Int z) (λ x y is. number_cell z x) v (some_same (cell_of v) (number z) e))
 
 pub truth_made : (s : Scalar) (b : Bool) (n : Nullability) → logical_type s.dtype ≡ bool n → option_map cell_of s.value ≡ Some (truth b) → Some s ≡ scalar_of (dtypes.Bool n) (Some (values.Bool b))
-truth_made s b n e f = made s (dtypes.Bool n) (Some (values.Bool b)) (truth_type s.dtype n e) (truth_value s.value b f)
+truth_made s b n e f = made s (dtypes.Bool n) (Some (values.Bool b)) (dtype_from s.dtype (bool n) e) (truth_value s.value b f)
 
 pub number_made : (s : Scalar) (z : ℤ) (p : PType) (n : Nullability) → logical_type s.dtype ≡ primitive p n → option_map cell_of s.value ≡ Some (number z) → Some s ≡ scalar_of (dtypes.Primitive p n) (Some (values.Int z))
-number_made s z p n e f = made s (dtypes.Primitive p n) (Some (values.Int z)) (number_type s.dtype p n e) (number_value s.value z f)
+number_made s z p n e f = made s (dtypes.Primitive p n) (Some (values.Int z)) (dtype_from s.dtype (primitive p n) e) (number_value s.value z f)
 
 pub number_refused : (z : ℤ) (p : PType) (n : Nullability) → in_range p z ≡ false → None ≡ scalar_of (dtypes.Primitive p n) (Some (values.Int z))
 number_refused z p n out =
     let cell : cell_of (values.Int z) ≡ number z = ap cell_of (sym (values.rolls-Int z)) ∙ fold-roll-ScalarValue Cell cell_step (ScalarValue-F.Int z) in
     let type : logical_type (dtypes.Primitive p n) ≡ primitive p n = ap logical_type (sym (dtypes.rolls-Primitive p n)) ∙ fold-roll-DType LogicalType LogicalType type_step extension_step (DType-F.Primitive p n) in
     refused (dtypes.Primitive p n) (Some (values.Int z)) (ap (fits (logical_type (dtypes.Primitive p n))) cell ∙ ap (λ (t : LogicalType). fits t (number z)) type ∙ out)
+
+-- ---- what is stated under a type
+
+-- a null
+pub null_read : (t : DType) (d : Data) → is_some (as_null d) ≡ true → scalar_in (logical_type t) d ≡ scalar_of t None
+unfolding scalar_in
+null_read t d null =
+    let stated : Option (Option ScalarValue) = option_map Some (value_under (logical_type t) d) in
+    ap (λ (b : Bool). (if b then Some None else stated) >>= scalar_of (dtype_of (logical_type t))) null ∙ ap (λ (u : DType). scalar_of u None) (dtype_exact t)
+
+type_if : (t : DType) (v : Option ScalarValue) (b : Bool) (fits : is_of_type t v ≡ b) (s : Scalar) → Some s ≡ scalar_if t v b fits → s.dtype ≡ t
+type_if t v true fits s is = ap (λ (u : Scalar). u.dtype) (some_same s (record { dtype = t; value = v; lawful = fits }) is)
+type_if t v false fits s is = absurd (cc)
+
+value_if : (t : DType) (v : Option ScalarValue) (b : Bool) (fits : is_of_type t v ≡ b) (s : Scalar) → Some s ≡ scalar_if t v b fits → s.value ≡ v
+value_if t v true fits s is = ap (λ (u : Scalar). u.value) (some_same s (record { dtype = t; value = v; lawful = fits }) is)
+value_if t v false fits s is = absurd (cc)
+
+test_if : (t : DType) (v : Option ScalarValue) (b : Bool) (fits : is_of_type t v ≡ b) → None ≡ scalar_if t v b fits → b ≡ false
+test_if t v true fits is = absurd (cc)
+test_if t v false fits is = refl
+
+type_by : (t : DType) (o : Option (Option ScalarValue)) (s : Scalar) → Some s ≡ (o >>= scalar_of t) → s.dtype ≡ t
+unfolding scalar_of
+type_by t None s is = absurd (cc)
+type_by t (Some v) s is = type_if t v (is_of_type t v) refl s is
+
+-- the scalar has the type
+pub stated_type : (t : DType) (d : Data) (s : Scalar) → Some s ≡ scalar_in (logical_type t) d → s.dtype ≡ t
+unfolding scalar_in
+stated_type t d s is = type_by (dtype_of (logical_type t)) (value_or_null (value_under (logical_type t)) d) s is ∙ dtype_exact t
+
+-- ---- extensions
+
+-- a value is of an extension where it is of the storage
+fits_under : (c : Option Cell) (e : ExtDType) → fits_type c (extension_type e) ≡ fits_type c (logical_type e.storage)
+fits_under None e = refl
+fits_under (Some (truth b)) e = refl
+fits_under (Some (number z)) e = refl
+fits_under (Some (bytes bs)) e = refl
+fits_under (Some (list cs)) e = refl
+
+of_extension : (e : ExtDType) (v : Option ScalarValue) → is_of_type (dtypes.Extension e) v ≡ is_of_type e.storage v
+of_extension e v = ap (fits_type (option_map cell_of v)) (extension_logical e) ∙ fits_under (option_map cell_of v) e
+
+value_by : (t : DType) (v : Option ScalarValue) (s : Scalar) → Some s ≡ scalar_of t v → s.value ≡ v
+unfolding scalar_of
+value_by t v s is = value_if t v (is_of_type t v) refl s is
+
+named_by : (e : ExtDType) (o : Option (Option ScalarValue)) (s x : Scalar) → Some s ≡ (o >>= scalar_of (dtype_of (logical_type e.storage))) → x.dtype ≡ dtypes.Extension e → x.value ≡ s.value → Some x ≡ (o >>= scalar_of (dtype_of (extension_type e)))
+named_by e None s x is type value = absurd (cc)
+named_by e (Some v) s x is type value = made x (dtype_of (extension_type e)) v (type ∙ sym (extension_exact e)) (value ∙ value_by (dtype_of (logical_type e.storage)) v s is)
+
+-- the value of the storage's scalar under the extension
+pub named_read : (e : ExtDType) (d : Data) (s x : Scalar) → Some s ≡ scalar_in (logical_type e.storage) d → x.dtype ≡ dtypes.Extension e → x.value ≡ s.value → Some x ≡ scalar_in (extension_type e) d
+unfolding scalar_in
+named_read e d s x is type value = named_by e (value_or_null (value_under (logical_type e.storage)) d) s x is type value
+
+test_by : (t : DType) (v : Option ScalarValue) → None ≡ scalar_of t v → is_of_type t v ≡ false
+unfolding scalar_of
+test_by t v is = test_if t v (is_of_type t v) refl is
+
+unnamed_by : (e : ExtDType) (o : Option (Option ScalarValue)) → None ≡ (o >>= scalar_of (dtype_of (logical_type e.storage))) → None ≡ (o >>= scalar_of (dtype_of (extension_type e)))
+unnamed_by e None is = refl
+unnamed_by e (Some v) is =
+    let storage : is_of_type e.storage v ≡ false = ap (λ (u : DType). is_of_type u v) (sym (dtype_exact e.storage)) ∙ test_by (dtype_of (logical_type e.storage)) v is in
+    refused (dtype_of (extension_type e)) v (ap (λ (u : DType). is_of_type u v) (extension_exact e) ∙ of_extension e v ∙ storage)
+
+-- no scalar of the storage is stated, so none of the extension
+pub unnamed_read : (e : ExtDType) (d : Data) → None ≡ scalar_in (logical_type e.storage) d → None ≡ scalar_in (extension_type e) d
+unfolding scalar_in
+unnamed_read e d is = unnamed_by e (value_or_null (value_under (logical_type e.storage)) d) is

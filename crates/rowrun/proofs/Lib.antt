@@ -1,6 +1,11 @@
 pub mod Answered
+pub mod Asked
+pub mod Evidence
 pub mod Exact
-pub mod FaultNumbers
+pub mod ExactTypes
+pub mod Extensions
+pub mod GeneratedRows
+pub mod GeneratedSums
 pub mod Items
 pub mod JsonText
 pub mod Lifted
@@ -8,5 +13,10 @@ pub mod Lines
 pub mod Names
 pub mod Nested
 pub mod OnLiterals
+pub mod Printed
 pub mod Ranges
 pub mod SameElements
+pub mod SummariesOnLiterals
+pub mod Tallied
+pub mod Turning
+pub mod TypeText

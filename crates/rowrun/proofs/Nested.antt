@@ -1,12 +1,13 @@
--- Columns inside columns.
+-- Columns inside columns, and types inside types.
 use Rattle.std.proofs.Common.{◌≡◌, ℕ, ◌+◌, ◌*◌, ◌<◌, ◌≤◌, max, List, Option, Some, refl, ap, arith, codes, Ordering, Less, Equal, Greater}
 use Rattle.std.specs.Ordering.{nat_cmp, match_ordering}
 use Rattle.std.specs.Cmp.Lexicographic.{slice_cmp}
 use Rattle.serde_json.specs.Data.{Data, null, boolean, number, string, array, object, Members, no_members, member, depth, members_depth}
 use Rattle.serde_json.specs.Find.{get, get_member}
-use Rattle.colbase.specs.Arrays.{Array}
+use Rattle.colbase.specs.LogicalType.{LogicalType}
 use Rattle.rowrun.specs.Objects.{text_in, ◌>>=◌}
-use Rattle.rowrun.specs.Columns.{column_in, child_in, column_over}
+use Rattle.rowrun.specs.Columns.{column_in, inner_in, column_over}
+use Rattle.rowrun.specs.Types.{type_of, storage_type_in, type_over}
 
 -- ---- what is found in an object is nested less deep
 
@@ -31,23 +32,37 @@ falls key (array ds) e is = absurd (cc)
 pub get_falls : (key : List ℕ) (d e : Data) → get key d ≡ Some e → 2 * depth e + 1 < 2 * depth d
 get_falls key d e is = omega (arith, falls key d e is)
 
--- ---- the definition, told by the member `child`
+-- ---- the definitions, told by the members
 
-child_by : (o : Ordering) (d : Data) (rest : Option Array) (found : Option Data) → rest ≡ (found >>= column_in) → match_ordering o rest (column_in d) rest ≡ (match_ordering o found (Some d) found >>= column_in)
-child_by Less d rest found e = e
-child_by Equal d rest found e = refl
-child_by Greater d rest found e = e
+found_in : {X : Type 0} (f : Data → Option X) (o : Ordering) (d : Data) (rest : Option X) (found : Option Data) → rest ≡ (found >>= f) → match_ordering o rest (f d) rest ≡ (match_ordering o found (Some d) found >>= f)
+found_in f Less d rest found e = e
+found_in f Equal d rest found e = refl
+found_in f Greater d rest found e = e
 
-child_in-get : (ms : Members) → child_in ms ≡ (get_member (codes "child") ms >>= column_in)
+inner_in-get : (key : List ℕ) (ms : Members) → inner_in key ms ≡ (get_member key ms >>= column_in)
 unfolding column_in
-child_in-get no_members = refl
-child_in-get (member k d ms) = child_by (slice_cmp nat_cmp (codes "child") k) d (child_in ms) (get_member (codes "child") ms) (child_in-get ms)
+inner_in-get key no_members = refl
+inner_in-get key (member k d ms) = found_in column_in (slice_cmp nat_cmp key k) d (inner_in key ms) (get_member key ms) (inner_in-get key ms)
 
-pub column_in-child : (d : Data) → column_in d ≡ column_over d (get (codes "child") d >>= column_in)
+pub column_in-inner : (d : Data) → column_in d ≡ column_over d (λ key. get key d >>= column_in)
 unfolding column_in column_over text_in
-column_in-child (object ms) = ap (λ (child : Option Array). column_over (object ms) child) (child_in-get ms)
-column_in-child null = refl
-column_in-child (boolean b) = refl
-column_in-child (number n) = refl
-column_in-child (string s) = refl
-column_in-child (array ds) = refl
+column_in-inner (object ms) = λ i. column_over (object ms) (λ key. inner_in-get key ms i)
+column_in-inner null = refl
+column_in-inner (boolean b) = refl
+column_in-inner (number n) = refl
+column_in-inner (string s) = refl
+column_in-inner (array ds) = refl
+
+storage_type_in-get : (ms : Members) → storage_type_in ms ≡ (get_member (codes "storage") ms >>= type_of)
+unfolding type_of
+storage_type_in-get no_members = refl
+storage_type_in-get (member k d ms) = found_in type_of (slice_cmp nat_cmp (codes "storage") k) d (storage_type_in ms) (get_member (codes "storage") ms) (storage_type_in-get ms)
+
+pub type_of-storage : (d : Data) → type_of d ≡ type_over d (get (codes "storage") d >>= type_of)
+unfolding type_of type_over
+type_of-storage (object ms) = ap (λ (storage : Option LogicalType). type_over (object ms) storage) (storage_type_in-get ms)
+type_of-storage null = refl
+type_of-storage (boolean b) = refl
+type_of-storage (number n) = refl
+type_of-storage (string s) = refl
+type_of-storage (array ds) = refl

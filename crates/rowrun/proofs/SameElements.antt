@@ -5,12 +5,12 @@ use Rattle.colbase.specs.Arrays.{Array}
 use Rattle.colbase.specs.Cell.{Cell}
 use Rattle.colbase.specs.LogicalType.{LogicalType}
 use Rattle.colbase.specs.declared.dtype.DType.{DType}
-use Rattle.colbase.specs.declared.dtype.PType.TheVariants.{I64}
+use Rattle.colbase.specs.declared.dtype.PType.TheVariants.{I64, U8}
 use Rattle.rowtypes.specs.Arguments.{pick_two, reads_two}
-use Rattle.rowtypes.specs.Elements.{shown_number}
-use Rattle.rowtypes.specs.Reading.{is_integer, IsNumberOf}
+use Rattle.rowtypes.specs.Elements.{shown_number, shown_scale}
+use Rattle.rowtypes.specs.Reading.{is_integer, IsNumberOf, IsScale}
 use Rattle.rowtypes.specs.Rows.{logical_types}
-use Rattle.rowrun.specs.Functions.{accepts_i64, reads_i64, shown_i64}
+use Rattle.rowrun.specs.Functions.{accepts_i64, accepts_rescale, reads_i64, reads_rescale, shown_i64, shown_rescale}
 
 pub as_many : (types : List DType) → length (logical_types types) ≡ length types
 as_many [] = refl
@@ -27,3 +27,17 @@ reads_each (suc k) c = (λ h. h, λ h. h)
 pub shows_each : (k : ℕ) (a : Array) (i : ℕ) → pick_two shown_number shown_number k a i ≡ shown_i64 k a i
 shows_each zero a i = refl
 shows_each (suc k) a i = refl
+
+-- those of an `i64` and a scale
+
+pub rescale_accepts : (k : ℕ) (t : LogicalType) → pick_two (is_integer I64) (is_integer U8) k t ≡ accepts_rescale k t
+rescale_accepts zero t = refl
+rescale_accepts (suc k) t = refl
+
+pub rescale_reads : (k : ℕ) (c : Cell) → reads_two (IsNumberOf I64) IsScale k c ↔ reads_rescale k c
+rescale_reads zero c = (λ h. h, λ h. h)
+rescale_reads (suc k) c = (λ h. h, λ h. h)
+
+pub rescale_shows : (k : ℕ) (a : Array) (i : ℕ) → pick_two shown_number shown_scale k a i ≡ shown_rescale k a i
+rescale_shows zero a i = refl
+rescale_shows (suc k) a i = refl

@@ -1,14 +1,14 @@
 -- The batch that bytes state, over the JSON value that `serde_json` reads from them.
-use Rattle.std.specs.Prelude.{ℕ, ◌&&◌, nat_le, if◌then◌else◌, List, Option, Some, None, codes}
+use Rattle.std.specs.Prelude.{ℕ, ℤ, ◌&&◌, nat_le, if◌then◌else◌, List, Option, Some, None, option_map, codes}
 use Rattle.std.specs.Str.{bytes_eq, is_utf8}
 use Rattle.serde_json.specs.Data.{Data}
 use Rattle.serde_json.specs.Read.{read}
 use Rattle.serde_json.specs.Find.{get}
 use Rattle.colbase.specs.Arrays.{Array}
 use Rattle.rowrun.specs.Columns.{columns_in, max_rows}
-use Rattle.rowrun.specs.Objects.{◌>>=◌, has_keys, text_in, array_in, number_in}
+use Rattle.rowrun.specs.Objects.{◌>>=◌, has_keys, text_in, array_in, integer_in, number_in}
 use Rattle.rowrun.specs.declared.batch.Call.{Call}
-use Rattle.rowrun.specs.declared.batch.Call.TheVariants.{WrappingAdd}
+use Rattle.rowrun.specs.declared.batch.Call.TheVariants.{WrappingAdd, CheckedAdd, Rescale, Truncate}
 
 -- ---- batches
 
@@ -18,9 +18,21 @@ pub record Batch : Type 0 where
   pub row_count : ℕ
   pub columns : List Array
 
+-- a function that has no options
+unfoldable pub without_options : Call → Data → Option Call
+without_options call options = if has_keys 0 options then Some call else None
+
+-- the options whose one key is `ticks`, an i64
+unfoldable pub ticks_in : Data → Option ℤ
+ticks_in options = if has_keys 1 options then integer_in (codes "ticks") options else None
+
 -- a function by its name, with its options
 unfoldable pub call_in : List ℕ → Data → Option Call
-call_in name options = if bytes_eq name (codes "wrapping_add") && has_keys 0 options then Some WrappingAdd else None
+call_in name options =
+    if bytes_eq name (codes "wrapping_add") then without_options WrappingAdd options
+    else if bytes_eq name (codes "checked_add") then without_options CheckedAdd options
+    else if bytes_eq name (codes "rescale") then without_options Rescale options
+    else if bytes_eq name (codes "truncate") then option_map (λ n. Truncate (record { ticks = n })) (ticks_in options) else None
 
 unfoldable pub batch_in : Data → Option Batch
 batch_in d = do

@@ -5,8 +5,8 @@ use Rattle.std.specs.Ordering.{nat_cmp, match_ordering}
 use Rattle.std.specs.Cmp.Lexicographic.{slice_cmp}
 use Rattle.std.specs.Str.{bytes_eq}
 use Rattle.serde_json.specs.Data.{Data, object, Items, Members, no_members, member}
-use Rattle.serde_json.specs.Find.{get, as_null, as_bool, as_number, as_i64, as_u64, as_str, as_array}
-use Rattle.colbase.specs.Arrays.{Array, primitive, bool, constant, masked, len}
+use Rattle.serde_json.specs.Find.{get, as_bool, as_number, as_i64, as_u64, as_str, as_array}
+use Rattle.colbase.specs.Arrays.{Array, primitive, bool, constant, masked, extension, dtype, len}
 use Rattle.colbase.specs.Faults.{first_of, length_check, null_check}
 use Rattle.colbase.specs.Fits.{in_range}
 use Rattle.colbase.specs.declared.fault.LayoutFault.{LayoutFault}
@@ -17,9 +17,10 @@ use Rattle.colbase.specs.declared.dtype.PType.{PType}
 use Rattle.colbase.specs.declared.dtype.PType.TheVariants.{I8, I16, I32, I64, U8, U16, U32, U64}
 use Rattle.colbase.specs.declared.dtype.Nullability.{Nullability}
 use Rattle.colbase.specs.declared.dtype.Nullability.TheVariants.{Nullable, NonNullable}
-use Rattle.rowrun.specs.Objects.{◌>>=◌, has_keys, text_in, number_in, array_in, all_in}
+use Rattle.rowrun.specs.DtypeOf.{ext_dtype_of}
+use Rattle.rowrun.specs.Objects.{◌>>=◌, has_keys, text_in, number_in, array_in, value_or_null, all_in}
 use Rattle.rowrun.specs.Scalars.{scalar_in}
-use Rattle.rowrun.specs.Types.{type_in, as_integer_type, as_bool_type}
+use Rattle.rowrun.specs.Types.{type_in, extension_over, as_integer_type, as_bool_type}
 
 -- ---- validity
 
@@ -61,9 +62,6 @@ laid_out layout xs v = unless_fault (length_check v (length xs)) (layout xs v)
 -- values none of which is null
 abbrev pub required_array : {X : Type 0} → (Data → Option X) → (List X → Validity → Array) → Validity → Items → Option Array
 required_array value layout v items = all_in value items >>= (λ xs. laid_out layout xs v)
-
-abbrev pub value_or_null : {X : Type 0} → (Data → Option X) → Data → Option (Option X)
-value_or_null value d = if is_some (as_null d) then Some None else option_map Some (value d)
 
 -- what is stored for the values, with this under a null
 abbrev pub stored_values : {X : Type 0} → X → List (Option X) → List X
@@ -148,27 +146,35 @@ masked_in d child = do
   valid ← valid_in Nullable d
   if has_keys_and_valid valid 2 d then masked_by child (unwrap_or valid validity.AllValid) else None
 
--- a column of the layout of this name, over what the member `child` states
-abbrev pub column_of : List ℕ → Data → Option Array → Option Array
-column_of layout d child =
+-- the extension layout over a storage, whose type is the extension's
+unfoldable pub extension_in : Data → Array → Option Array
+extension_in d storage = do
+  stated ← extension_over (codes "name") d (dtype storage)
+  ext ← ext_dtype_of stated
+  if has_keys 5 d then Some (extension ext storage) else None
+
+-- a column of the layout of this name, over what a member states
+abbrev pub column_of : List ℕ → Data → (List ℕ → Option Array) → Option Array
+column_of layout d inner =
     if bytes_eq layout (codes "primitive") then primitive_in d
     else if bytes_eq layout (codes "bool") then bool_in d
     else if bytes_eq layout (codes "constant") then constant_in d
-    else if bytes_eq layout (codes "masked") then child >>= masked_in d else None
+    else if bytes_eq layout (codes "masked") then inner (codes "child") >>= masked_in d
+    else if bytes_eq layout (codes "extension") then inner (codes "storage") >>= extension_in d else None
 
-unfoldable pub column_over : Data → Option Array → Option Array
-column_over d child = text_in (codes "layout") d >>= (λ layout. column_of layout d child)
+unfoldable pub column_over : Data → (List ℕ → Option Array) → Option Array
+column_over d inner = text_in (codes "layout") d >>= (λ layout. column_of layout d inner)
 
 -- by recursion over the JSON value, so that columns may nest as deep as it does
 unfoldable mutual
   pub column_in : Data → Option Array
-  column_in (object ms) = column_over (object ms) (child_in ms)
+  column_in (object ms) = column_over (object ms) (λ key. inner_in key ms)
   column_in _ = None
 
-  -- the column that the member `child` states
-  pub child_in : Members → Option Array
-  child_in no_members = None
-  child_in (member key d ms) = match_ordering (slice_cmp nat_cmp (codes "child") key) (child_in ms) (column_in d) (child_in ms)
+  -- the column that the member of this key states
+  pub inner_in : List ℕ → Members → Option Array
+  inner_in key no_members = None
+  inner_in key (member k d ms) = match_ordering (slice_cmp nat_cmp key k) (inner_in key ms) (column_in d) (inner_in key ms)
 
 abbrev pub columns_in : Items → Option (List Array)
 columns_in items = all_in column_in items

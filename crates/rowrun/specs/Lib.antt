@@ -1,8 +1,10 @@
 pub mod Batch
 pub mod BatchView
 pub mod Columns
+pub mod DtypeOf
 pub mod Faults
 pub mod Functions
+pub mod Generator
 pub mod Objects
 pub mod Reading
 pub mod Results

@@ -1,7 +1,7 @@
 -- The members of a JSON object, and the items of a JSON array.
-use Rattle.std.specs.Prelude.{ℕ, Bool, false, ◌+◌, ◌==◌, List, [], ◌∷◌, Option, Some, None, option_map, option_and_then}
+use Rattle.std.specs.Prelude.{ℕ, Bool, false, ◌+◌, ◌==◌, if◌then◌else◌, List, [], ◌∷◌, Option, Some, None, is_some, option_map, option_and_then, ℤ}
 use Rattle.serde_json.specs.Data.{Data, Items, no_items, item, Members, no_members, member}
-use Rattle.serde_json.specs.Find.{get, as_number, as_u64, as_str, as_array, as_object}
+use Rattle.serde_json.specs.Find.{get, as_null, as_number, as_u64, as_str, as_array, as_object, as_i64}
 
 infixl 10 ◌>>=◌
 abbrev pub ◌>>=◌ : {A B : Type 0} → Option A → (A → Option B) → Option B
@@ -27,6 +27,13 @@ array_in key d = get key d >>= as_array
 
 unfoldable pub number_in : List ℕ → Data → Option ℕ
 number_in key d = get key d >>= as_number >>= as_u64
+
+-- what a value states that may be null
+abbrev pub value_or_null : {X : Type 0} → (Data → Option X) → Data → Option (Option X)
+value_or_null value d = if is_some (as_null d) then Some None else option_map Some (value d)
+
+unfoldable pub integer_in : List ℕ → Data → Option ℤ
+integer_in key d = get key d >>= as_number >>= as_i64
 
 -- what the items state, where each of them states something
 abbrev pub all_in : {X : Type 0} → (Data → Option X) → Items → Option (List X)

@@ -1,4 +1,5 @@
 // A call and its arguments.
+use crate::functions::TruncateOptions;
 use colbase::ExecutionArgs;
 
 /// The most rows that a batch or a constant may have.
@@ -8,6 +9,9 @@ pub(crate) const MAX_ROWS: u64 = 1_048_576;
 #[derive(Clone, Copy, Debug, PartialEq, Eq)]
 pub(crate) enum Call {
     WrappingAdd,
+    CheckedAdd,
+    Rescale,
+    Truncate(TruncateOptions),
 }
 
 /// A call and its arguments.

@@ -2,9 +2,7 @@
 ghost use Rattle.std.specs.Prelude.{◌≡◌, ◌≤◌, ◌⊎◌, ℕ, List, true, false, map, Some, ⊤, IfOk, IfErr, string_bytes};
 ghost use Rattle.colbase.specs.Arrays.{column, dtype};
 ghost use Rattle.colbase.specs.Column.{Column};
-ghost use Rattle.colbase.specs.declared.dtype.PType.TheVariants.{I64};
 ghost use Rattle.colbase.specs.declared.fault.Fault as refusals;
-ghost use Rattle.rowtypes.specs.Reading.{is_integer};
 ghost use Rattle.rowexec.specs.Calls.{Raised};
 ghost use Rattle.rowtext.specs.declared.plan.Plan.{Plan};
 ghost use Rattle.rowtext.specs.declared.plan.Plan.TheVariants.{Usage, Unread, Long, Answered};
@@ -17,38 +15,39 @@ ghost use Rattle.rowrun.specs.Batch.{Batch as StatedBatch, batch_of};
 ghost use Rattle.rowrun.specs.BatchView.{batch_view};
 ghost use Rattle.rowrun.specs.Faults.{fault_text};
 ghost use Rattle.rowrun.specs.Results.{CauseOf, HasFault, IsResult};
+ghost use Rattle.rowrun.specs.Shows.{is_printed};
 ghost use Rattle.rowrun.specs.Text.{text};
-ghost use Rattle.rowrun.specs.Words.{is_run, Leads, Cause};
+ghost use Rattle.rowrun.specs.Generator.{summary};
+ghost use Rattle.rowrun.specs.Words.{is_run, Cause, Generates, IsGen, Leads};
 
 use crate::batch::{Batch, Call};
 use crate::fault::fault_text;
-use crate::functions::WrappingAdd;
+use crate::functions::{CheckedAdd, Rescale, Truncate, WrappingAdd};
+use crate::generator::summary_of;
 use crate::input::{InputStop, read_batch};
 use crate::print::text_of;
+use crate::words::{is_run, rows_asked};
 use colbase::{ArrayRef, EmptyOptions, ExecutionCtx, Fault, Res};
 use rowexec::RowEngine;
 use rowtext::{Answer, Command, Sink, Source, Text, TopCall, conduct};
 use std::alloc::{AllocError, Global};
 
-/// Whether the words are the one word `run`.
-fn is_run(words: &[String]) -> bool
-    ensures { result ≡ is_run (map string_bytes words.now) }
-{
-    if words.len() != 1 {
-        return false;
-    }
-    words[0].as_str() == "run"
-}
-
 /// The column that the batch asks for, as the engine answers it.
-fn execute<E: RowEngine>(engine: &mut E, batch: &Batch, ctx: ExecutionCtx) -> Res<ArrayRef>
+pub(crate) fn execute<E: RowEngine>(
+    engine: &mut E,
+    batch: &Batch,
+    ctx: ExecutionCtx,
+) -> Res<ArrayRef>
     ensures called { Raised (E.calls engine.old) (E.calls engine.new) }
     ensures column { IfOk result (λ array. IsResult (batch_view batch.now) (column array)) }
-    ensures i64 { IfOk result (λ array. is_integer I64 (dtype array) ≡ true) }
+    ensures printed { IfOk result (λ array. is_printed (dtype array) ≡ true) }
     ensures cause { IfErr result (CauseOf batch.now.call batch.now.args.row_count batch.now.args.columns) }
 {
     match batch.call {
         Call::WrappingAdd => engine.execute(&WrappingAdd, &EmptyOptions, &batch.args, ctx),
+        Call::CheckedAdd => engine.execute(&CheckedAdd, &EmptyOptions, &batch.args, ctx),
+        Call::Rescale => engine.execute(&Rescale, &EmptyOptions, &batch.args, ctx),
+        Call::Truncate(options) => engine.execute(&Truncate, &options, &batch.args, ctx),
     }
 }
 
@@ -73,24 +72,25 @@ fn answer_to<E: RowEngine>(
     }
 }
 
-/// The call that knows the word `run`.
+/// The call that knows the word `run`, and the words that ask for generated rows.
 #[derive(Drop)]
 struct Rows;
 
 impl<E: RowEngine> TopCall<E> for Rows {
     ghost use Rattle.rowexec.specs.Calls.{Raised};
-    ghost use Rattle.rowtext.specs.Causes.{input_command};
-    ghost use Rattle.rowrun.specs.Words.{is_run, Leads};
+    ghost use Rattle.rowrun.specs.Words.{command_of, Leads, WordsLead};
 
-    ghost command = { λ _ words. input_command (is_run words) };
+    ghost command = { λ _ words. command_of words };
 
     ghost input_leads = { λ _ old new _ bytes answer. Leads (Raised (E.calls old) (E.calls new)) bytes answer };
 
+    ghost words_lead = { λ _ old new words answer. WordsLead (Raised (E.calls old) (E.calls new)) words answer };
+
     fn command(&self, words: &[String]) -> Command {
-        if is_run(words) {
-            Command::WithInput
-        } else {
-            Command::Unknown
+        match rows_asked(words) {
+            Some(_) => Command::WithoutInput,
+            None if is_run(words) => Command::WithInput,
+            None => Command::Unknown,
         }
     }
 
@@ -103,17 +103,35 @@ impl<E: RowEngine> TopCall<E> for Rows {
     ) -> Result<Answer, AllocError> {
         answer_to(engine, bytes, ExecutionCtx::new(alloc))
     }
+
+    fn answer_words(
+        &self,
+        alloc: Global,
+        words: &[String],
+        engine: &mut E,
+    ) -> Result<Answer, AllocError> {
+        match rows_asked(words) {
+            Some(rows) => {
+                let summary = summary_of(engine, rows, ExecutionCtx::new(alloc))?;
+                Ok(Answer::Printed(Text::new(summary)))
+            }
+            // It isn't called with other words.
+            None => Err(AllocError),
+        }
+    }
 }
 
-/// Reads all of the source, answers it, and writes the answer to the sink. The result is the status of the program.
+/// Answers the words, or all of the source, and writes the answer to the sink. The result is the status of the program.
 ///
-/// The words are those after the program's name; the one word `run` is known. The input is one JSON value that states a
-/// batch, whose call the engine executes. The whole text stands before its first byte is written, and writing takes no memory.
+/// The words are those after the program's name. With the one word `run` the input is one JSON value that states a
+/// batch, whose call the engine executes. With the words `gen` and N, a decimal number from 0 to 1,000,000 without sign
+/// and without leading zero, nothing is read: N rows of two columns are generated, and the engine adds them with `checked_add`.
+/// The whole text stands before its first byte is written, and writing takes no memory.
 ///
 /// | Status | Written | When |
 /// |---|---|---|
-/// | 0 | the text of the result | the input states a batch, and the engine answered a column |
-/// | 1 | `usage` | the words aren't the one word `run` |
+/// | 0 | the text of the result, or the summary | the input states a batch, and the engine answered a column; or the words are `gen` N |
+/// | 1 | `usage` | the words are neither `run` nor `gen` N |
 /// | 2 | `form` | the input is no JSON value |
 /// | 3 | `fault`, the fault's name and its numbers | the input states a batch, and the engine answered a fault |
 /// | 4 | nothing | want of memory |
@@ -134,9 +152,11 @@ pub fn run<E: RowEngine, S: Source, K: Sink>(
     // Statuses 0 and 3: the engine was called.
     ensures called { (result ≡ 0) ⊎ (result ≡ 3) → Raised (E.calls engine.old) (E.calls engine.new) }
 
-    // Status 0: all was read, the bytes state a batch, and exactly the text of its result was written.
-    ensures done { result ≡ 0 → TookAll (change S.left S.faults source.old source.new)
-        (λ bytes. (b : StatedBatch) × (batch_of bytes ≡ Some b) × (c : Column) × IsResult b c × Gained (change K.held K.faults sink.old sink.new) (text c)) }
+    // Status 0: the word is `run`, all was read, the bytes state a batch, and exactly the text of its result was written; or the words are `gen`
+    // and N, the source is as it was, and exactly the summary of N rows was written.
+    ensures done { result ≡ 0 → ((is_run (map string_bytes words.now) ≡ true) × TookAll (change S.left S.faults source.old source.new)
+        (λ bytes. (b : StatedBatch) × (batch_of bytes ≡ Some b) × (c : Column) × IsResult b c × Gained (change K.held K.faults sink.old sink.new) (text c)))
+        ⊎ ((n : ℕ) × IsGen (map string_bytes words.now) n × IsUntouched (change S.left S.faults source.old source.new) × Gained (change K.held K.faults sink.old sink.new) (summary n)) }
 
     // Status 3: all was read, the bytes state a batch, and exactly the line of a fault that has its cause for it was written.
     ensures fault { result ≡ 3 → TookAll (change S.left S.faults source.old source.new)
@@ -158,8 +178,13 @@ pub fn run<E: RowEngine, S: Source, K: Sink>(
     ensures memory { result ≡ 4 → IsUntouched (change K.held K.faults sink.old sink.new) }
     ensures no_others { result ≤ 8 }
 
+    // The words `gen` and N in range: the status is 0, 4 or 6, and what was written goes with it; where the sink doesn't fail, it is 0 or 4.
+    ensures generates { (n : ℕ) → IsGen (map string_bytes words.now) n
+        → Generates (Raised (E.calls engine.old) (E.calls engine.new)) n result (change S.left S.faults source.old source.new) (change K.held K.faults sink.old sink.new) }
+    ensures generated { (n : ℕ) → IsGen (map string_bytes words.now) n → IsSteady (change K.held K.faults sink.old sink.new) → (result ≡ 0) ⊎ (result ≡ 4) }
+
     // Other words give status 1, unless the sink fails.
-    ensures refused { is_run (map string_bytes words.now) ≡ false → IsSteady (change K.held K.faults sink.old sink.new)
+    ensures refused { is_run (map string_bytes words.now) ≡ false → ((n : ℕ) → IsGen (map string_bytes words.now) n → ⊥) → IsSteady (change K.held K.faults sink.old sink.new)
         → WroteWhole (λ plan. plan ≡ Usage) result (change K.held K.faults sink.old sink.new) }
 
     // More bytes than the limit give status 7, unless the sink fails.

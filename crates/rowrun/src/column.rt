@@ -1,5 +1,5 @@
 // A column from its JSON value.
-ghost use Rattle.std.specs.Prelude.{option_and_then, codes};
+ghost use Rattle.std.specs.Prelude.{option_and_then};
 ghost use Rattle.serde_json.specs.Find.{get};
 ghost use Rattle.serde_json.specs.View.{view};
 ghost use Rattle.rowrun.specs.Columns.{column_in, column_over};
@@ -7,6 +7,7 @@ ghost use Rattle.rowrun.specs.Reading.{Gives};
 
 mod boolean;
 mod constant;
+mod extension;
 mod masked;
 mod primitive;
 mod scalars;
@@ -18,6 +19,7 @@ use crate::tree::{Stop, text_in};
 use boolean::bool_in;
 use colbase::{ArrayRef, ExecutionCtx};
 use constant::constant_in;
+use extension::extension_in;
 use masked::masked_in;
 use primitive::primitive_in;
 use serde_json::Value;
@@ -30,11 +32,11 @@ pub(crate) fn column_in(value: &Value, ctx: ExecutionCtx) -> Result<ArrayRef, St
     column_by_layout(value, ctx)
 }
 
-/// The same, where the column that the member `child` states may be built.
+/// The same, where the column that a member states may be built.
 #[cycle(column)]
 #[tactic(auto, unfolding(crate::specs::Columns::column_over))]
 fn column_by_layout(value: &Value, ctx: ExecutionCtx) -> Result<ArrayRef, Stop>
-    ensures { Gives (λ a. a) result (column_over (view value.now) (option_and_then column_in (get (codes "child") (view value.now)))) }
+    ensures { Gives (λ a. a) result (column_over (view value.now) (λ key. option_and_then column_in (get key (view value.now)))) }
 {
     let layout = text_in(value, "layout").ok_or(Stop::NoBatch)?;
     if layout == "primitive" {
@@ -46,6 +48,9 @@ fn column_by_layout(value: &Value, ctx: ExecutionCtx) -> Result<ArrayRef, Stop>
     } else if layout == "masked" {
         let child = value.get("child").ok_or(Stop::NoBatch)?;
         masked_in(value, column_in(child, ctx)?, ctx)
+    } else if layout == "extension" {
+        let storage = value.get("storage").ok_or(Stop::NoBatch)?;
+        extension_in(value, column_in(storage, ctx)?, ctx)
     } else {
         Err(Stop::NoBatch)
     }

@@ -1,14 +1,15 @@
 // A batch from the bytes that state it.
 ghost use Rattle.std.specs.Prelude.{◌≡◌, IfOk, IsErrOf, IsSome, Some, None};
 ghost use Rattle.serde_json.specs.View.{view, items_view};
-ghost use Rattle.rowrun.specs.Batch.{call_in, batch_in, json_of, batch_of};
+ghost use Rattle.rowrun.specs.Batch.{call_in, batch_in, json_of, batch_of, ticks_in, without_options};
 ghost use Rattle.rowrun.specs.BatchView.{batch_view};
 ghost use Rattle.rowrun.specs.Columns.{columns_in};
 ghost use Rattle.rowrun.specs.Reading.{Gives};
 
 use crate::batch::{Batch, Call, MAX_ROWS};
 use crate::column::column_in;
-use crate::tree::{JsonStop, Stop, array_in, has_keys, json_in, number_in, text_in};
+use crate::functions::TruncateOptions;
+use crate::tree::{JsonStop, Stop, array_in, has_keys, integer_in, json_in, number_in, text_in};
 use colbase::{ArrayRef, ExecutionArgs, ExecutionCtx};
 use serde_json::Value;
 use std::alloc::Global;
@@ -21,15 +22,44 @@ pub(crate) enum InputStop {
     Unbuilt,
 }
 
+/// A function that has no options.
+#[tactic(auto, unfolding(crate::specs::Batch::without_options))]
+fn without_options(call: Call, options: &Value) -> Option<Call>
+    ensures { result ≡ without_options call (view options.now) }
+{
+    if has_keys(options, 0) {
+        Some(call)
+    } else {
+        None
+    }
+}
+
+/// The options whose one key is `ticks`.
+#[tactic(auto, unfolding(crate::specs::Batch::ticks_in))]
+fn ticks_in(options: &Value) -> Option<i64>
+    ensures { result ≡ ticks_in (view options.now) }
+{
+    if has_keys(options, 1) {
+        integer_in(options, "ticks")
+    } else {
+        None
+    }
+}
+
 /// A function by its name, with its options.
 #[tactic(auto, unfolding(crate::specs::Batch::call_in))]
 fn call_in(name: &str, options: &Value) -> Option<Call>
     ensures { result ≡ call_in name.now (view options.now) }
 {
-    if name == "wrapping_add" && has_keys(options, 0) {
-        Some(Call::WrappingAdd)
-    } else {
-        None
+    match name {
+        "wrapping_add" => without_options(Call::WrappingAdd, options),
+        "checked_add" => without_options(Call::CheckedAdd, options),
+        "rescale" => without_options(Call::Rescale, options),
+        "truncate" => {
+            let ticks = ticks_in(options)?;
+            Some(Call::Truncate(TruncateOptions { ticks }))
+        }
+        _ => None,
     }
 }
 

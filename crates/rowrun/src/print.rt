@@ -6,26 +6,18 @@ ghost use Rattle.colbase.specs.declared.dtype.Nullability.TheVariants.{Nullable}
 ghost use Rattle.colbase.specs.Cell.{number};
 ghost use Rattle.colbase.specs.LogicalType.{primitive};
 ghost use Rattle.colbase.specs.Arrays.{column, dtype, row, rows};
-ghost use Rattle.rowtypes.specs.Reading.{is_integer};
-ghost use Rattle.rowrun.specs.Text.{text, line, type_text, cell_text};
-ghost use Rattle.rowrun.specs.Shows.{Shows};
+ghost use Rattle.rowrun.specs.Text.{text, line, cell_text};
+ghost use Rattle.rowrun.specs.Shows.{Shows, is_printed};
 
-use colbase::{ArrayRef, Buffer, ExecutionCtx, Nullability};
-use rowtypes::InputElement;
+use colbase::{ArrayRef, Buffer, ExecutionCtx, Res};
+use rowtypes::{InputElement, TimestampRow};
 use std::alloc::AllocError;
+use types::push_type_line;
+
+mod types;
 
 /// Room for a row's line, to begin with.
 const ROOM_PER_ROW: usize = 8;
-
-/// Appends the line of an `i64` type.
-fn push_type_line(out: &mut Vec<u8>, nullability: Nullability) -> Result<(), AllocError>
-    ensures { OnOk result (out.new.items ≡ out.old.items ++ line (type_text (primitive I64 nullability))) }
-{
-    match nullability {
-        Nullability::NonNullable => out.extend_from_slice(b"i64\n"),
-        Nullability::Nullable => out.extend_from_slice(b"i64?\n"),
-    }
-}
 
 /// Appends the line of a number or a null.
 fn push_line(out: &mut Vec<u8>, cell: Option<i64>) -> Result<(), AllocError>
@@ -40,13 +32,23 @@ fn push_line(out: &mut Vec<u8>, cell: Option<i64>) -> Result<(), AllocError>
     Ok(())
 }
 
-/// The numbers of an `i64` column, at each row that isn't null its cell.
+/// The column as numbers, at each row that isn't null its cell.
+fn decoded(array: &ArrayRef, ctx: ExecutionCtx) -> Res<Buffer<i64>>
+    requires { is_printed (dtype array.now) ≡ true }
+    ensures { IfOk result (Shows array.now) }
+{
+    match TimestampRow::validate(array.dtype()) {
+        Ok(()) => TimestampRow::decode(array, ctx),
+        Err(_) => i64::decode(array, ctx),
+    }
+}
+
 fn numbers_of(array: &ArrayRef, ctx: ExecutionCtx) -> Result<Buffer<i64>, AllocError>
-    requires { is_integer I64 (dtype array.now) ≡ true }
+    requires { is_printed (dtype array.now) ≡ true }
     ensures { IfOk result (Shows array.now) }
 {
     // Each cell of the type is read, so that memory alone can be wanting.
-    i64::decode(array, ctx).map_err(|_| AllocError)
+    decoded(array, ctx).map_err(|_| AllocError)
 }
 
 /// The number or null of a row.
@@ -73,16 +75,16 @@ fn push_rows(out: &mut Vec<u8>, array: &ArrayRef, values: &[i64]) -> Result<(), 
     Ok(())
 }
 
-/// The text of an `i64` column of any layout: its type's line, and a line for each row.
+/// The text of a column of numbers or timestamps, of any layout: its type's line, and a line for each row.
 pub(crate) fn text_of(array: &ArrayRef, ctx: ExecutionCtx) -> Result<Vec<u8>, AllocError>
-    requires { is_integer I64 (dtype array.now) ≡ true }
+    requires { is_printed (dtype array.now) ≡ true }
     ensures { IfOk result (λ v. v.items ≡ text (column array.now)) }
 {
     let numbers = numbers_of(array, ctx)?;
     let values = numbers.as_slice();
     let room = values.len().saturating_mul(ROOM_PER_ROW);
     let mut out = Vec::with_capacity(ctx.alloc(), room)?;
-    push_type_line(&mut out, array.dtype().nullability())?;
+    push_type_line(&mut out, array.dtype())?;
     push_rows(&mut out, array, values)?;
     Ok(out)
 }

@@ -3,7 +3,7 @@ ghost use Rattle.std.specs.Prelude.{◌≡◌, option_map, IfOk, IsErrOf, Some, 
 ghost use Rattle.serde_json.specs.View.{view, items_view};
 ghost use Rattle.rowrun.specs.declared.tree.Stop.TheVariants.{Memory};
 ghost use Rattle.rowrun.specs.Batch.{json_of};
-ghost use Rattle.rowrun.specs.Objects.{has_keys, text_in, array_in, number_in};
+ghost use Rattle.rowrun.specs.Objects.{has_keys, text_in, array_in, integer_in, number_in};
 ghost use Rattle.rowrun.specs.Reading.{stop_of};
 
 use colbase::Fault;
@@ -100,4 +100,11 @@ pub(crate) fn number_in(value: &Value, key: &str) -> Option<u64>
     ensures { result ≡ number_in key.now (view value.now) }
 {
     value.get(key)?.as_u64()
+}
+
+#[tactic(auto, unfolding(crate::specs::Objects::integer_in))]
+pub(crate) fn integer_in(value: &Value, key: &str) -> Option<i64>
+    ensures { result ≡ integer_in key.now (view value.now) }
+{
+    value.get(key)?.as_i64()
 }

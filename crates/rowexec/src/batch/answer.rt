@@ -44,7 +44,7 @@ pub(super) fn finish_values<F: RowSpec>(
 ) -> Res<ArrayRef>
     requires types { logical_types types.now ≡ types_of args.now.columns }
     requires plan { PlanOf (F.output options.now (types_of args.now.columns)).storage (F.output options.now (types_of args.now.columns)).label (F.policy options.now (types_of args.now.columns)) plan.now }
-    requires values { ValidColumn (F.meaning options.now (types_of args.now.columns)) F.Evidence.neutral (F.output options.now (types_of args.now.columns)).storage args.now.columns args.now.row_count values }
+    requires values { ValidColumn F.finish (F.meaning options.now (types_of args.now.columns)) (F.output options.now (types_of args.now.columns)).storage args.now.columns args.now.row_count values }
     requires tells { (i : ℕ) → i < args.now.row_count → valid_at full.now i ≡ is_some (full_cells args.now.columns i) }
     requires covers { Covers full.now args.now.row_count }
     requires nullable { validity_nullability full.now ≡ Nullable → any_nullable (types_of args.now.columns) ≡ true }

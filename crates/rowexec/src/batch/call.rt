@@ -6,6 +6,7 @@ ghost use Rattle.colbase.specs.LogicalTypeOf.{logical_type};
 ghost use Rattle.colbase.specs.declared.fault.Fault.TheVariants.{Arity, Memory};
 ghost use Rattle.rowtypes.specs.Rows.{logical_types};
 ghost use Rattle.rowexec.specs.Batch.{Cause, Fits, Misfits, Planned, StatedAs, Unplanned};
+ghost use Rattle.rowexec.specs.Evidence.{EvidenceFails, joined};
 ghost use Rattle.rowexec.specs.Rows.{StrictRow, full_cells, types_of};
 
 use super::arguments::check_arguments;
@@ -21,7 +22,8 @@ use rowplan::{RowFn, RowSpec};
 /// is the function's meaning of the arguments there, whatever the layouts, the values under nulls and the constants.
 /// Refusals come in this order: the number of columns, the first column of another length, options or types that the
 /// function doesn't take, the first type that its element doesn't accept, an output that isn't in order; and then an
-/// argument with a cell that isn't read. Nothing is decoded where some argument is told to be null at each row.
+/// argument with a cell that isn't read, or rows without a null argument whose joined evidence is rejected. A value under a
+/// null neither fails a call nor hides a failure. Nothing is decoded where some argument is told to be null at each row.
 pub fn execute_rows<F: RowFn>(
     function: &F,
     options: &F::Options,
@@ -34,7 +36,7 @@ pub fn execute_rows<F: RowFn>(
     ensures dtype { IfOk result (λ a. StatedAs (F.output options.now (types_of args.now.columns)) (types_of args.now.columns) (dtype a)) }
     ensures len { IfOk result (λ a. len a ≡ args.now.row_count) }
     ensures rows { IfOk result (λ a. (i : ℕ) → i < args.now.row_count → StrictRow F.finish (F.meaning options.now (types_of args.now.columns)) (full_cells args.now.columns i) (row a i)) }
-    ensures errors { IfErr result (Cause F.arity args.now.row_count args.now.columns (F.accepts options.now (types_of args.now.columns)) (F.fits options.now (types_of args.now.columns)) (F.output options.now (types_of args.now.columns)) (F.policy options.now (types_of args.now.columns)) (F.reads options.now (types_of args.now.columns))) }
+    ensures errors { IfErr result (Cause F.arity args.now.row_count args.now.columns (F.accepts options.now (types_of args.now.columns)) (F.fits options.now (types_of args.now.columns)) (F.output options.now (types_of args.now.columns)) (F.policy options.now (types_of args.now.columns)) (F.reads options.now (types_of args.now.columns)) (EvidenceFails (F.deferred options.now (types_of args.now.columns)) F.finish (joined F.Evidence.join F.Evidence.neutral (F.meaning options.now (types_of args.now.columns)) (full_cells args.now.columns) args.now.row_count))) }
 {
     execute_rows_counted(function, options, args, ctx).answer
 }

@@ -1,20 +1,22 @@
-ghost use Rattle.std.specs.Prelude.{◌≡◌, ◌≢◌, ◌<◌, ◌≤◌, ◌⊎◌, ℕ, length, true, false, None, Err, IfOk, IfErr, IfSome, is_some};
+ghost use Rattle.std.specs.Prelude.{◌≡◌, ◌≢◌, ◌<◌, ◌≤◌, ◌⊎◌, ℕ, length, true, false, None, Err, IfOk, IfErr, MatchOption, MatchResult, is_some};
 ghost use Rattle.colbase.specs.Arrays.{dtype, len, row};
 ghost use Rattle.colbase.specs.declared.fault.Fault.TheVariants.{Arity, Memory};
 ghost use Rattle.rowtypes.specs.Rows.{logical_types};
 ghost use Rattle.rowplan.specs.Plans.{PlanOf};
 ghost use Rattle.rowexec.specs.Batch.{Cause, Fits, Planned, StatedAs};
 ghost use Rattle.colbase.specs.Valid.{Covers, valid_at};
-ghost use Rattle.rowexec.specs.Counts.{settled, steps_asked};
+ghost use Rattle.rowexec.specs.Counts.{dense_accepted, most_prepares, settled, steps_asked};
+ghost use Rattle.rowexec.specs.Evidence.{EvidenceFails, joined};
 ghost use Rattle.rowexec.specs.Reads.{ReadFails};
 ghost use Rattle.rowexec.specs.Rows.{EachHasRows, StrictRow, full_cells, some_all_null, types_of};
-ghost use Rattle.rowexec.specs.Visits.{RanRows, ValidColumn};
+ghost use Rattle.rowexec.specs.Visits.{ValidColumn};
 
 use super::answer::{finish_values, null_answer};
 use super::dense::execute_dense;
 use super::full_rows::{full_rows, is_some_all_null};
 use super::one_row::execute_one_row;
 use super::plan::plan_call;
+use super::retry::execute_with_retry;
 use super::selection::{Selection, select_rows};
 use super::valid::execute_valid;
 use crate::visitor::Visited;
@@ -46,10 +48,10 @@ pub fn execute_rows_counted<F: RowFn>(
     ensures dtype { IfOk result.answer (λ a. StatedAs (F.output options.now (types_of args.now.columns)) (types_of args.now.columns) (dtype a)) }
     ensures len { IfOk result.answer (λ a. len a ≡ args.now.row_count) }
     ensures rows { IfOk result.answer (λ a. (i : ℕ) → i < args.now.row_count → StrictRow F.finish (F.meaning options.now (types_of args.now.columns)) (full_cells args.now.columns i) (row a i)) }
-    ensures errors { IfErr result.answer (Cause F.arity args.now.row_count args.now.columns (F.accepts options.now (types_of args.now.columns)) (F.fits options.now (types_of args.now.columns)) (F.output options.now (types_of args.now.columns)) (F.policy options.now (types_of args.now.columns)) (F.reads options.now (types_of args.now.columns))) }
-    ensures most { result.steps ≤ steps_asked (F.policy options.now (types_of args.now.columns)) args.now.row_count args.now.columns }
-    ensures least { IfOk result.answer (λ _. steps_asked (F.policy options.now (types_of args.now.columns)) args.now.row_count args.now.columns ≤ result.steps) }
-    ensures prepares { result.prepares ≤ 1 }
+    ensures errors { IfErr result.answer (Cause F.arity args.now.row_count args.now.columns (F.accepts options.now (types_of args.now.columns)) (F.fits options.now (types_of args.now.columns)) (F.output options.now (types_of args.now.columns)) (F.policy options.now (types_of args.now.columns)) (F.reads options.now (types_of args.now.columns)) (EvidenceFails (F.deferred options.now (types_of args.now.columns)) F.finish (joined F.Evidence.join F.Evidence.neutral (F.meaning options.now (types_of args.now.columns)) (full_cells args.now.columns) args.now.row_count))) }
+    ensures most { result.steps ≤ steps_asked (F.policy options.now (types_of args.now.columns)) (dense_accepted F.finish F.Evidence.join F.Evidence.neutral (F.meaning options.now (types_of args.now.columns)) (F.shown options.now (types_of args.now.columns)) args.now.columns args.now.row_count) args.now.row_count args.now.columns }
+    ensures least { IfOk result.answer (λ _. steps_asked (F.policy options.now (types_of args.now.columns)) (dense_accepted F.finish F.Evidence.join F.Evidence.neutral (F.meaning options.now (types_of args.now.columns)) (F.shown options.now (types_of args.now.columns)) args.now.columns args.now.row_count) args.now.row_count args.now.columns ≤ result.steps) }
+    ensures prepares { result.prepares ≤ most_prepares (F.policy options.now (types_of args.now.columns)) }
     ensures none { some_all_null args.now.columns ≡ true → result.prepares ≡ 0 }
     ensures refused { (Fits F.arity args.now.row_count args.now.columns → Planned (F.accepts options.now (types_of args.now.columns)) (F.fits options.now (types_of args.now.columns)) (F.output options.now (types_of args.now.columns)) (types_of args.now.columns) → ⊥) → (result.prepares ≡ 0) × (result.steps ≡ 0) }
 {
@@ -95,10 +97,10 @@ fn execute_planned<F: RowFn>(
     ensures dtype { IfOk result.answer (λ a. StatedAs (F.output options.now (types_of args.now.columns)) (types_of args.now.columns) (dtype a)) }
     ensures len { IfOk result.answer (λ a. len a ≡ args.now.row_count) }
     ensures rows { IfOk result.answer (λ a. (i : ℕ) → i < args.now.row_count → StrictRow F.finish (F.meaning options.now (types_of args.now.columns)) (full_cells args.now.columns i) (row a i)) }
-    ensures errors { IfErr result.answer (λ e. (e ≡ Memory) ⊎ ((settled (F.policy options.now (types_of args.now.columns)) args.now.row_count args.now.columns ≡ false) × ReadFails (F.reads options.now (types_of args.now.columns)) 0 args.now.columns e)) }
-    ensures most { result.steps ≤ steps_asked (F.policy options.now (types_of args.now.columns)) args.now.row_count args.now.columns }
-    ensures least { IfOk result.answer (λ _. steps_asked (F.policy options.now (types_of args.now.columns)) args.now.row_count args.now.columns ≤ result.steps) }
-    ensures prepares { result.prepares ≤ 1 }
+    ensures errors { IfErr result.answer (λ e. (e ≡ Memory) ⊎ ((settled (F.policy options.now (types_of args.now.columns)) args.now.row_count args.now.columns ≡ false) × (ReadFails (F.reads options.now (types_of args.now.columns)) 0 args.now.columns e ⊎ EvidenceFails (F.deferred options.now (types_of args.now.columns)) F.finish (joined F.Evidence.join F.Evidence.neutral (F.meaning options.now (types_of args.now.columns)) (full_cells args.now.columns) args.now.row_count) e))) }
+    ensures most { result.steps ≤ steps_asked (F.policy options.now (types_of args.now.columns)) (dense_accepted F.finish F.Evidence.join F.Evidence.neutral (F.meaning options.now (types_of args.now.columns)) (F.shown options.now (types_of args.now.columns)) args.now.columns args.now.row_count) args.now.row_count args.now.columns }
+    ensures least { IfOk result.answer (λ _. steps_asked (F.policy options.now (types_of args.now.columns)) (dense_accepted F.finish F.Evidence.join F.Evidence.neutral (F.meaning options.now (types_of args.now.columns)) (F.shown options.now (types_of args.now.columns)) args.now.columns args.now.row_count) args.now.row_count args.now.columns ≤ result.steps) }
+    ensures prepares { result.prepares ≤ most_prepares (F.policy options.now (types_of args.now.columns)) }
     ensures none { some_all_null args.now.columns ≡ true → result.prepares ≡ 0 }
 {
     if is_some_all_null(args.columns(), args.row_count()) {
@@ -108,16 +110,14 @@ fn execute_planned<F: RowFn>(
         Ok(full) => full,
         Err(fault) => return without_calls(Err(fault)),
     };
-    let Some(visited) = execute_selected(function, options, args, types, plan, &full, ctx) else {
-        return without_calls(null_answer(types, plan, args.row_count(), ctx));
-    };
     let Visited {
         answer,
         prepares,
         steps,
-    } = visited;
+    } = execute_selected(function, options, args, types, plan, &full, ctx);
     let answer = match answer {
-        Ok(values) => finish_values::<F>(options, args, types, plan, values, &full, ctx),
+        Ok(Some(values)) => finish_values::<F>(options, args, types, plan, values, &full, ctx),
+        Ok(None) => null_answer(types, plan, args.row_count(), ctx),
         Err(fault) => Err(fault),
     };
     Counted {
@@ -136,7 +136,7 @@ fn execute_selected<F: RowFn>(
     plan: &BatchPlan,
     full: &Validity,
     ctx: ExecutionCtx,
-) -> Option<Visited<ArrayRef>>
+) -> Visited<Option<ArrayRef>>
     requires types { logical_types types.now ≡ types_of args.now.columns }
     requires arity { length args.now.columns ≡ F.arity }
     requires rows { EachHasRows args.now.row_count args.now.columns }
@@ -145,18 +145,27 @@ fn execute_selected<F: RowFn>(
     requires some { some_all_null args.now.columns ≡ false }
     requires tells { (i : ℕ) → i < args.now.row_count → valid_at full.now i ≡ is_some (full_cells args.now.columns i) }
     requires covers { Covers full.now args.now.row_count }
-    ensures ran { IfSome result (λ v. RanRows (steps_asked (F.policy options.now (types_of args.now.columns)) args.now.row_count args.now.columns) (ValidColumn (F.meaning options.now (types_of args.now.columns)) F.Evidence.neutral (F.output options.now (types_of args.now.columns)).storage args.now.columns args.now.row_count) (ReadFails (F.reads options.now (types_of args.now.columns)) 0 args.now.columns) v.answer v.prepares v.steps) }
-    ensures unsettled { IfSome result (λ v. settled (F.policy options.now (types_of args.now.columns)) args.now.row_count args.now.columns ≡ false) }
-    ensures nothing { result ≡ None → (0 < args.now.row_count) × (steps_asked (F.policy options.now (types_of args.now.columns)) args.now.row_count args.now.columns ≡ 0) × ((i : ℕ) → i < args.now.row_count → full_cells args.now.columns i ≡ None) }
+    ensures answered { MatchResult result.answer (λ o. MatchOption o ((0 < args.now.row_count) × ((i : ℕ) → i < args.now.row_count → full_cells args.now.columns i ≡ None)) (ValidColumn F.finish (F.meaning options.now (types_of args.now.columns)) (F.output options.now (types_of args.now.columns)).storage args.now.columns args.now.row_count)) (λ e. ReadFails (F.reads options.now (types_of args.now.columns)) 0 args.now.columns e ⊎ EvidenceFails (F.deferred options.now (types_of args.now.columns)) F.finish (joined F.Evidence.join F.Evidence.neutral (F.meaning options.now (types_of args.now.columns)) (full_cells args.now.columns) args.now.row_count) e) }
+    ensures unsettled { IfErr result.answer (λ e. settled (F.policy options.now (types_of args.now.columns)) args.now.row_count args.now.columns ≡ false) }
+    ensures prepares { result.prepares ≤ most_prepares (F.policy options.now (types_of args.now.columns)) }
+    ensures most { result.steps ≤ steps_asked (F.policy options.now (types_of args.now.columns)) (dense_accepted F.finish F.Evidence.join F.Evidence.neutral (F.meaning options.now (types_of args.now.columns)) (F.shown options.now (types_of args.now.columns)) args.now.columns args.now.row_count) args.now.row_count args.now.columns }
+    ensures least { IfOk result.answer (λ _. steps_asked (F.policy options.now (types_of args.now.columns)) (dense_accepted F.finish F.Evidence.join F.Evidence.neutral (F.meaning options.now (types_of args.now.columns)) (F.shown options.now (types_of args.now.columns)) args.now.columns args.now.row_count) args.now.row_count args.now.columns ≤ result.steps) }
 {
     let columns = args.columns();
     let row_count = args.row_count();
     match select_rows(plan.policy(), columns, row_count, full) {
-        Selection::One => Some(execute_one_row(function, options, columns, types, row_count, ctx)),
-        Selection::All => Some(execute_dense(function, options, columns, types, row_count, ctx)),
-        Selection::Valid(bits) => Some(execute_valid(
-            function, options, columns, types, &bits, ctx,
-        )),
-        Selection::Nothing => None,
+        Selection::One => {
+            execute_one_row(function, options, columns, types, row_count, ctx).some_values()
+        }
+        Selection::All => {
+            execute_dense(function, options, columns, types, row_count, ctx).some_values()
+        }
+        Selection::Attempt => {
+            execute_with_retry(function, options, columns, types, row_count, full, ctx)
+        }
+        Selection::Valid(bits) => {
+            execute_valid(function, options, columns, types, &bits, ctx).some_values()
+        }
+        Selection::Nothing => Visited::before_the_rows(Ok(None), 0),
     }
 }

@@ -1,8 +1,9 @@
 // Execution of rows on what the columns show.
-ghost use Rattle.std.specs.Prelude.{◌≡◌, length, true};
+ghost use Rattle.std.specs.Prelude.{◌≡◌, ◌⊎◌, length, true};
 ghost use Rattle.rowtypes.specs.Rows.{DecodeFails, decoded_lengths, each_length, logical_types};
 ghost use Rattle.rowexec.specs.Batch.{Planned};
-ghost use Rattle.rowexec.specs.Rows.{types_of};
+ghost use Rattle.rowexec.specs.Evidence.{EvidenceFails, joined};
+ghost use Rattle.rowexec.specs.Rows.{full_cells, types_of};
 ghost use Rattle.rowexec.specs.Visits.{DenseColumn, MayRunAll, RanRows};
 
 use crate::visitor::{ExecuteRows, Visited};
@@ -23,7 +24,7 @@ pub(super) fn execute_dense<F: RowFn>(
     requires planned { Planned (F.accepts options.now (types_of columns.now)) (F.fits options.now (types_of columns.now)) (F.output options.now (types_of columns.now)) (types_of columns.now) }
     requires asked { each_length row_count (decoded_lengths columns.now) ≡ true }
     requires runs { MayRunAll (F.policy options.now (types_of columns.now)) row_count columns.now }
-    ensures { RanRows row_count (DenseColumn (F.meaning options.now (types_of columns.now)) F.Evidence.neutral (F.shown options.now (types_of columns.now)) (F.output options.now (types_of columns.now)).storage columns.now row_count) (DecodeFails (F.reads options.now (types_of columns.now)) 0 columns.now) result.answer result.prepares result.steps }
+    ensures { RanRows row_count (DenseColumn F.finish (F.meaning options.now (types_of columns.now)) (F.shown options.now (types_of columns.now)) (F.output options.now (types_of columns.now)).storage columns.now row_count) (λ e. DecodeFails (F.reads options.now (types_of columns.now)) 0 columns.now e ⊎ EvidenceFails (F.deferred options.now (types_of columns.now)) F.finish (joined F.Evidence.join F.Evidence.neutral (F.meaning options.now (types_of columns.now)) (full_cells columns.now) row_count) e) result.answer result.prepares result.steps }
 {
     let visitor = ExecuteRows::<F> {
         options,

@@ -1,11 +1,12 @@
 // One row that stands for all rows of a batch.
-ghost use Rattle.std.specs.Prelude.{◌≡◌, ◌<◌, ℕ, length, true, IfOk, IfErr};
+ghost use Rattle.std.specs.Prelude.{◌≡◌, ◌<◌, ◌⊎◌, ℕ, length, true, IfOk, IfErr};
 ghost use Rattle.colbase.specs.Arrays.{dtype, len, row};
 ghost use Rattle.colbase.specs.declared.fault.Fault.TheVariants.{Memory};
 ghost use Rattle.rowtypes.specs.Rows.{DecodeFails, logical_types};
 ghost use Rattle.rowexec.specs.Batch.{Planned};
 ghost use Rattle.rowexec.specs.Counts.{each_one_value, is_one_value, one_row};
-ghost use Rattle.rowexec.specs.Rows.{EachHasRows, types_of};
+ghost use Rattle.rowexec.specs.Evidence.{EvidenceFails, joined};
+ghost use Rattle.rowexec.specs.Rows.{EachHasRows, full_cells, types_of};
 ghost use Rattle.rowexec.specs.Visits.{DenseColumn, RanRows};
 
 use super::dense::execute_dense;
@@ -58,7 +59,7 @@ pub(super) fn execute_one_row<F: RowFn>(
     requires planned { Planned (F.accepts options.now (types_of columns.now)) (F.fits options.now (types_of columns.now)) (F.output options.now (types_of columns.now)) (types_of columns.now) }
     requires rows { EachHasRows row_count columns.now }
     requires one { one_row row_count columns.now ≡ true }
-    ensures { RanRows 1 (DenseColumn (F.meaning options.now (types_of columns.now)) F.Evidence.neutral (F.shown options.now (types_of columns.now)) (F.output options.now (types_of columns.now)).storage columns.now row_count) (DecodeFails (F.reads options.now (types_of columns.now)) 0 columns.now) result.answer result.prepares result.steps }
+    ensures { RanRows 1 (DenseColumn F.finish (F.meaning options.now (types_of columns.now)) (F.shown options.now (types_of columns.now)) (F.output options.now (types_of columns.now)).storage columns.now row_count) (λ e. DecodeFails (F.reads options.now (types_of columns.now)) 0 columns.now e ⊎ EvidenceFails (F.deferred options.now (types_of columns.now)) F.finish (joined F.Evidence.join F.Evidence.neutral (F.meaning options.now (types_of columns.now)) (full_cells columns.now) row_count) e) result.answer result.prepares result.steps }
 {
     let Visited {
         answer,

@@ -4,7 +4,8 @@ ghost use Rattle.colbase.specs.declared.fault.Fault.TheVariants.{Arity, Memory};
 ghost use Rattle.rowtypes.specs.Rows.{logical_types};
 ghost use Rattle.rowplan.specs.Plans.{PlanOf};
 ghost use Rattle.rowexec.specs.Batch.{Cause, Fits, Planned, Unplanned};
-ghost use Rattle.rowexec.specs.Rows.{types_of};
+ghost use Rattle.rowexec.specs.Evidence.{EvidenceFails, joined};
+ghost use Rattle.rowexec.specs.Rows.{full_cells, types_of};
 
 use super::arguments::{argument_types, check_arguments};
 use colbase::{DType, ExecutionArgs, ExecutionCtx, Res};
@@ -31,7 +32,7 @@ pub(super) fn plan_call<F: RowFn>(
     ensures fits { IfOk result (λ _. Fits F.arity args.now.row_count args.now.columns) }
     ensures planned { IfOk result (λ _. Planned (F.accepts options.now (types_of args.now.columns)) (F.fits options.now (types_of args.now.columns)) (F.output options.now (types_of args.now.columns)) (types_of args.now.columns)) }
     ensures plan { IfOk result (λ p. PlanOf (F.output options.now (types_of args.now.columns)).storage (F.output options.now (types_of args.now.columns)).label (F.policy options.now (types_of args.now.columns)) p.plan) }
-    ensures errors { IfErr result (Cause F.arity args.now.row_count args.now.columns (F.accepts options.now (types_of args.now.columns)) (F.fits options.now (types_of args.now.columns)) (F.output options.now (types_of args.now.columns)) (F.policy options.now (types_of args.now.columns)) (F.reads options.now (types_of args.now.columns))) }
+    ensures errors { IfErr result (Cause F.arity args.now.row_count args.now.columns (F.accepts options.now (types_of args.now.columns)) (F.fits options.now (types_of args.now.columns)) (F.output options.now (types_of args.now.columns)) (F.policy options.now (types_of args.now.columns)) (F.reads options.now (types_of args.now.columns)) (EvidenceFails (F.deferred options.now (types_of args.now.columns)) F.finish (joined F.Evidence.join F.Evidence.neutral (F.meaning options.now (types_of args.now.columns)) (full_cells args.now.columns) args.now.row_count))) }
 {
     check_arguments::<F>(args)?;
     let types = argument_types(args.columns(), ctx.alloc())?;

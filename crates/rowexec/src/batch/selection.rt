@@ -17,6 +17,8 @@ pub(super) enum Selection {
     /// One row, which stands for all.
     One,
     All,
+    /// All, where a rejected run of them is looked at again.
+    Attempt,
     /// The rows at which no argument is null, which are marked true. There is another row too.
     Valid(BitBuffer),
     /// None, since some argument is null at each.
@@ -39,13 +41,17 @@ pub(super) fn select_rows(
         return Selection::One;
     }
     match policy {
-        RowPolicy::Dense | RowPolicy::DenseWithRetry => Selection::All,
+        RowPolicy::Dense => Selection::All,
+        RowPolicy::DenseWithRetry => match full {
+            Validity::NonNullable | Validity::AllValid => Selection::All,
+            Validity::AllInvalid | Validity::Array(_) => Selection::Attempt,
+        },
         RowPolicy::ValidOnly => select_valid(full, row_count),
     }
 }
 
-// The rows that are valid.
-fn select_valid(full: &Validity, row_count: usize) -> Selection
+/// The rows that are valid, by no attempt.
+pub(super) fn select_valid(full: &Validity, row_count: usize) -> Selection
     requires { Covers full.now row_count }
     ensures { SelectedValid full.now row_count result }
 {

@@ -1,10 +1,11 @@
 // Execution of the rows at which no argument is null.
-ghost use Rattle.std.specs.Prelude.{◌≡◌, ◌<◌, ℕ, length, is_some, IfOk, IfErr};
+ghost use Rattle.std.specs.Prelude.{◌≡◌, ◌<◌, ◌⊎◌, ℕ, length, is_some, IfOk, IfErr};
 ghost use Rattle.bitlane.specs.Bits.{bit};
 ghost use Rattle.colbase.specs.Keep.{trues};
 ghost use Rattle.colbase.specs.declared.fault.Fault.TheVariants.{Memory};
 ghost use Rattle.rowtypes.specs.Rows.{DecodeFails, logical_types};
 ghost use Rattle.rowexec.specs.Batch.{Planned};
+ghost use Rattle.rowexec.specs.Evidence.{EvidenceFails, joined};
 ghost use Rattle.rowexec.specs.Reads.{ReadFails};
 ghost use Rattle.rowexec.specs.Rows.{EachHasRows, full_cells, types_of};
 ghost use Rattle.rowexec.specs.Selections.{FilteredFrom};
@@ -30,7 +31,7 @@ pub(super) fn execute_valid<F: RowFn>(
     requires planned { Planned (F.accepts options.now (types_of columns.now)) (F.fits options.now (types_of columns.now)) (F.output options.now (types_of columns.now)) (types_of columns.now) }
     requires rows { EachHasRows (length valid.now) columns.now }
     requires full { (i : ℕ) → i < length valid.now → bit valid.now i ≡ is_some (full_cells columns.now i) }
-    ensures { RanRows (trues valid.now) (ValidColumn (F.meaning options.now (types_of columns.now)) F.Evidence.neutral (F.output options.now (types_of columns.now)).storage columns.now (length valid.now)) (ReadFails (F.reads options.now (types_of columns.now)) 0 columns.now) result.answer result.prepares result.steps }
+    ensures { RanRows (trues valid.now) (ValidColumn F.finish (F.meaning options.now (types_of columns.now)) (F.output options.now (types_of columns.now)).storage columns.now (length valid.now)) (λ e. ReadFails (F.reads options.now (types_of columns.now)) 0 columns.now e ⊎ EvidenceFails (F.deferred options.now (types_of columns.now)) F.finish (joined F.Evidence.join F.Evidence.neutral (F.meaning options.now (types_of columns.now)) (full_cells columns.now) (length valid.now)) e) result.answer result.prepares result.steps }
 {
     let Visited {
         answer,
@@ -63,7 +64,7 @@ fn execute_direct<F: RowFn>(
     requires planned { Planned (F.accepts options.now (types_of columns.now)) (F.fits options.now (types_of columns.now)) (F.output options.now (types_of columns.now)) (types_of columns.now) }
     requires rows { EachHasRows (length valid.now) columns.now }
     requires full { (i : ℕ) → i < length valid.now → bit valid.now i ≡ is_some (full_cells columns.now i) }
-    ensures { RanOrDeclined (trues valid.now) (ValidColumn (F.meaning options.now (types_of columns.now)) F.Evidence.neutral (F.output options.now (types_of columns.now)).storage columns.now (length valid.now)) (DecodeFails (F.reads options.now (types_of columns.now)) 0 columns.now) result.answer result.prepares result.steps }
+    ensures { RanOrDeclined (trues valid.now) (ValidColumn F.finish (F.meaning options.now (types_of columns.now)) (F.output options.now (types_of columns.now)).storage columns.now (length valid.now)) (λ e. DecodeFails (F.reads options.now (types_of columns.now)) 0 columns.now e ⊎ EvidenceFails (F.deferred options.now (types_of columns.now)) F.finish (joined F.Evidence.join F.Evidence.neutral (F.meaning options.now (types_of columns.now)) (full_cells columns.now) (length valid.now)) e) result.answer result.prepares result.steps }
 {
     let visitor = ExecuteValidRows::<F> {
         options,
@@ -93,7 +94,7 @@ fn execute_filtered<F: RowFn>(
     requires planned { Planned (F.accepts options.now (types_of columns.now)) (F.fits options.now (types_of columns.now)) (F.output options.now (types_of columns.now)) (types_of columns.now) }
     requires rows { EachHasRows (length valid.now) columns.now }
     requires full { (i : ℕ) → i < length valid.now → bit valid.now i ≡ is_some (full_cells columns.now i) }
-    ensures { RanRows (trues valid.now) (ValidColumn (F.meaning options.now (types_of columns.now)) F.Evidence.neutral (F.output options.now (types_of columns.now)).storage columns.now (length valid.now)) (ReadFails (F.reads options.now (types_of columns.now)) 0 columns.now) result.answer result.prepares result.steps }
+    ensures { RanRows (trues valid.now) (ValidColumn F.finish (F.meaning options.now (types_of columns.now)) (F.output options.now (types_of columns.now)).storage columns.now (length valid.now)) (λ e. ReadFails (F.reads options.now (types_of columns.now)) 0 columns.now e ⊎ EvidenceFails (F.deferred options.now (types_of columns.now)) F.finish (joined F.Evidence.join F.Evidence.neutral (F.meaning options.now (types_of columns.now)) (full_cells columns.now) (length valid.now)) e) result.answer result.prepares result.steps }
 {
     let filtered = match filter_columns(columns, valid, ctx) {
         Ok(filtered) => filtered,

@@ -1,12 +1,13 @@
-// Loops over the rows that are valid, whose callback gives a value.
+// Loops over the rows that are valid, whose callback gives a value, or a value and evidence.
 ghost use Rattle.std.specs.Prelude.{◌≡◌, ◌<◌, ◌≤◌, ℕ, length, count_by, slice_index_or, true, IfOk, IfErr, IsSome};
 ghost use Rattle.bitlane.specs.Bits.{bit};
-ghost use Rattle.bitlane.specs.Maps.{MapsTo};
+ghost use Rattle.bitlane.specs.Maps.{Joined, MapsTo};
 ghost use Rattle.colbase.specs.Arrays.{dtype, len, row};
 ghost use Rattle.rowtypes.specs.Outputs.{StatesAnswer};
 ghost use Rattle.rowtypes.specs.Rows.{each_length};
+ghost use Rattle.rowexec.specs.Answers.{StatesChecked};
 
-use bitlane::{BitBuffer, IndexedSource};
+use bitlane::{BitBuffer, FailureEvidence, IndexedSource, NoFailure};
 use colbase::{ArrayRef, ExecutionCtx, Fault, Res};
 use rowtypes::{ElementTuple, IndexedElementTuple, OutputBuffer, OutputElement, RowsVisitor};
 use std::marker::PhantomData;
@@ -36,7 +37,49 @@ pub(crate) fn execute_owned_infallible_valid_rows<
     ensures most { result.1 ≤ count_by (λ b. b) valid.now }
     ensures least { IfOk result.0 (λ a. count_by (λ b. b) valid.now ≤ result.1) }
 {
-    let visitor = BuildValidRows::<Args, Out, P, A> {
+    let (answer, steps) = execute_owned_valid_rows::<Args, Out, NoFailure, P, _>(
+        columns,
+        valid,
+        prepared,
+        |value: &P, elems: Args::Elems| -> (Out, NoFailure)
+            requires { A.pre apply value elems }
+            ensures { A.post apply value.entry elems result.0 }
+        { (apply(value, elems), NoFailure) },
+        ctx,
+    );
+    match answer {
+        Ok((values, NoFailure)) => (Ok(values), steps),
+        Err(fault) => (Err(fault), steps),
+    }
+}
+
+/// The values of the answers of a callback to the rows that are valid, each at its own row, as a column without nulls whose
+/// other rows hold the default; the evidence that is joined over them; and how often it was called. The callback is lent the
+/// prepared value. Whether an argument is one value or a column is told before the loop.
+pub(crate) fn execute_owned_valid_rows<
+    Args: IndexedElementTuple,
+    Out: OutputElement,
+    V: FailureEvidence,
+    P: Drop,
+    A: Fn(&P, Args::Elems) -> (Out, V),
+>(
+    columns: &Args::Columns,
+    valid: &BitBuffer,
+    prepared: &P,
+    apply: A,
+    ctx: ExecutionCtx,
+) -> (Res<(ArrayRef, V)>, u128)
+    requires lengths { each_length (length valid.now) (Args.lengths columns.now) ≡ true }
+    requires callable { (i : ℕ) (e : Args.Elems) → i < length valid.now → bit valid.now i ≡ true → Args.cells e ≡ Args.shows columns.now i → A.pre apply prepared e }
+    ensures dtype { IfOk result.0 (λ r. dtype r.0 ≡ Out.element_type) }
+    ensures len { IfOk result.0 (λ r. len r.0 ≡ length valid.now) }
+    ensures rows { IfOk result.0 (λ r. Joined V.join V.neutral (bit valid.now) (λ i v. StatesChecked (λ e. Args.cells e ≡ Args.shows columns.now i) (λ e a. A.post apply prepared.entry e a) Out.states (row r.0 i) v) (length valid.now) r.1) }
+    ensures not_null { IfOk result.0 (λ r. (i : ℕ) → i < length valid.now → IsSome (row r.0 i)) }
+    ensures errors { IfErr result.0 (λ e. e ≡ Fault.Memory) }
+    ensures most { result.1 ≤ count_by (λ b. b) valid.now }
+    ensures least { IfOk result.0 (λ _. count_by (λ b. b) valid.now ≤ result.1) }
+{
+    let visitor = BuildValidRows::<Args, Out, V, P, A> {
         columns,
         valid,
         prepared,
@@ -47,14 +90,14 @@ pub(crate) fn execute_owned_infallible_valid_rows<
     Args::visit_rows(columns, valid.len(), visitor)
 }
 
-/// Builds a column of the answers of a callback to the rows that are valid.
+/// Builds a column of the values of a callback's answers to the rows that are valid, and joins their evidence.
 #[derive(Drop)]
-struct BuildValidRows<'a, Args: ElementTuple, Out, P, A> {
+struct BuildValidRows<'a, Args: ElementTuple, Out, V, P, A> {
     columns: &'a Args::Columns,
     valid: &'a BitBuffer,
     prepared: &'a P,
     apply: A,
-    output: PhantomData<Out>,
+    output: PhantomData<(Out, V)>,
     ctx: ExecutionCtx,
 }
 
@@ -62,16 +105,18 @@ impl<
     'a,
     Args: ElementTuple,
     Out: OutputElement,
+    V: FailureEvidence,
     P: Drop,
-    A: Fn(&P, Args::Elems) -> Out,
-> RowsVisitor<Args> for BuildValidRows<'a, Args, Out, P, A> {
+    A: Fn(&P, Args::Elems) -> (Out, V),
+> RowsVisitor<Args> for BuildValidRows<'a, Args, Out, V, P, A> {
     ghost use Rattle.std.specs.Prelude.{◌≡◌, ◌<◌, ◌≤◌, ℕ, length, count_by, true, IfOk, IfErr, IsSome};
     ghost use Rattle.bitlane.specs.Bits.{bit};
     ghost use Rattle.colbase.specs.Arrays.{dtype, len, row};
     ghost use Rattle.colbase.specs.declared.fault.Fault.TheVariants.{Memory};
-    ghost use Rattle.rowtypes.specs.Outputs.{StatesAnswer};
+    ghost use Rattle.bitlane.specs.Maps.{Joined};
+    ghost use Rattle.rowexec.specs.Answers.{StatesChecked};
 
-    type Output = (Res<ArrayRef>, u128);
+    type Output = (Res<(ArrayRef, V)>, u128);
 
     ghost rows = { λ s. length s.valid.now };
 
@@ -79,33 +124,46 @@ impl<
 
     ghost ready = { λ s. (i : ℕ) (e : Args.Elems) → i < length s.valid.now → bit s.valid.now i ≡ true → Args.cells e ≡ Args.shows s.columns.now i → A.pre s.apply s.prepared e };
 
-    ghost gives = { λ s r. IfOk r.0 (λ a. dtype a ≡ Out.element_type) × IfOk r.0 (λ a. len a ≡ length s.valid.now) × IfOk r.0 (λ a. (i : ℕ) → i < length s.valid.now → bit s.valid.now i ≡ true → StatesAnswer (λ e. Args.cells e ≡ Args.shows s.columns.now i) (λ e r. A.post s.apply s.prepared e r) Out.states (row a i)) × IfOk r.0 (λ a. (i : ℕ) → i < length s.valid.now → IsSome (row a i)) × IfErr r.0 (λ e. e ≡ Memory) × (r.1 ≤ count_by (λ b. b) s.valid.now) × IfOk r.0 (λ a. count_by (λ b. b) s.valid.now ≤ r.1) };
+    ghost gives = { λ s r. IfOk r.0 (λ a. dtype a.0 ≡ Out.element_type) × IfOk r.0 (λ a. len a.0 ≡ length s.valid.now) × IfOk r.0 (λ a. Joined V.join V.neutral (bit s.valid.now) (λ i v. StatesChecked (λ e. Args.cells e ≡ Args.shows s.columns.now i) (λ e b. A.post s.apply s.prepared e b) Out.states (row a.0 i) v) (length s.valid.now) a.1) × IfOk r.0 (λ a. (i : ℕ) → i < length s.valid.now → IsSome (row a.0 i)) × IfErr r.0 (λ e. e ≡ Memory) × (r.1 ≤ count_by (λ b. b) s.valid.now) × IfOk r.0 (λ _. count_by (λ b. b) s.valid.now ≤ r.1) };
 
     fn visit<S: IndexedSource<Item = Args::Elems> + Drop>(
         self,
         source: S,
-    ) -> (Res<ArrayRef>, u128) {
-        build_valid_rows::<Out, P, S, A>(&source, self.valid, self.prepared, self.apply, self.ctx)
+    ) -> (Res<(ArrayRef, V)>, u128) {
+        build_valid_rows::<Out, V, P, S, A>(
+            &source,
+            self.valid,
+            self.prepared,
+            self.apply,
+            self.ctx,
+        )
     }
 }
 
-/// The answers to the items of a source at the valid rows, as a column without nulls, and how often the callback was called.
-fn build_valid_rows<Out: OutputElement, P: Drop, S: IndexedSource, A: Fn(&P, S::Item) -> Out>(
+/// The values of the answers to the items of a source at the valid rows as a column without nulls, the joined evidence, and
+/// how often the callback was called.
+fn build_valid_rows<
+    Out: OutputElement,
+    V: FailureEvidence,
+    P: Drop,
+    S: IndexedSource,
+    A: Fn(&P, S::Item) -> (Out, V),
+>(
     source: &S,
     valid: &BitBuffer,
     prepared: &P,
     apply: A,
     ctx: ExecutionCtx,
-) -> (Res<ArrayRef>, u128)
+) -> (Res<(ArrayRef, V)>, u128)
     requires items { S.count source.now ≡ length valid.now }
     requires callable { (i : ℕ) (x : S.Item) → i < length valid.now → bit valid.now i ≡ true → S.item_at source.now i x → A.pre apply prepared x }
-    ensures dtype { IfOk result.0 (λ a. dtype a ≡ Out.element_type) }
-    ensures len { IfOk result.0 (λ a. len a ≡ length valid.now) }
-    ensures rows { IfOk result.0 (λ a. (i : ℕ) → i < length valid.now → bit valid.now i ≡ true → StatesAnswer (S.item_at source.now i) (λ x r. A.post apply prepared.entry x r) Out.states (row a i)) }
-    ensures not_null { IfOk result.0 (λ a. (i : ℕ) → i < length valid.now → IsSome (row a i)) }
+    ensures dtype { IfOk result.0 (λ r. dtype r.0 ≡ Out.element_type) }
+    ensures len { IfOk result.0 (λ r. len r.0 ≡ length valid.now) }
+    ensures rows { IfOk result.0 (λ r. Joined V.join V.neutral (bit valid.now) (λ i v. StatesChecked (S.item_at source.now i) (λ x a. A.post apply prepared.entry x a) Out.states (row r.0 i) v) (length valid.now) r.1) }
+    ensures not_null { IfOk result.0 (λ r. (i : ℕ) → i < length valid.now → IsSome (row r.0 i)) }
     ensures errors { IfErr result.0 (λ e. e ≡ Fault.Memory) }
     ensures most { result.1 ≤ count_by (λ b. b) valid.now }
-    ensures least { IfOk result.0 (λ a. count_by (λ b. b) valid.now ≤ result.1) }
+    ensures least { IfOk result.0 (λ _. count_by (λ b. b) valid.now ≤ result.1) }
 {
     let rows = valid.len();
     // The places are taken before the first call.
@@ -113,36 +171,43 @@ fn build_valid_rows<Out: OutputElement, P: Drop, S: IndexedSource, A: Fn(&P, S::
         Ok(buffer) => buffer,
         Err(fault) => return (Err(fault), 0),
     };
-    let calls = map_valid_into(
+    let (evidence, calls) = map_checked_valid_into(
         source,
         valid,
         buffer.slots(),
-        |item: S::Item| -> Out
+        |item: S::Item| -> (Out, V)
             requires { A.pre apply prepared item }
             ensures { A.post apply prepared.entry item result }
         { apply(prepared, item) },
     );
-    (buffer.finish(rows, ctx), calls as u128)
+    match buffer.finish(rows, ctx) {
+        Ok(values) => (Ok((values, evidence)), calls as u128),
+        Err(fault) => (Err(fault), calls as u128),
+    }
 }
 
-/// Writes the answer of `apply` to each item at a true bit at the item's index, leaves the other places as they are, and tells
-/// how often `apply` was called.
-fn map_valid_into<S: IndexedSource, T: Drop, F: Fn(S::Item) -> T>(
+/// Writes the value of the answer of `apply` to each item at a true bit at the item's index, leaves the other places as they
+/// are, and answers the join of the evidence, beginning with the default, and how often `apply` was called.
+fn map_checked_valid_into<S: IndexedSource, T: Drop, V: FailureEvidence, F: Fn(S::Item) -> (T, V)>(
     source: &S,
     valid: &BitBuffer,
     out: &mut [T],
     apply: F,
-) -> usize
+) -> (V, usize)
     requires items { S.count source.now ≡ length valid.now }
     requires places { length out.old ≡ length valid.now }
     requires callable { (i : ℕ) (x : S.Item) → i < length valid.now → bit valid.now i ≡ true → S.item_at source.now i x → F.pre apply x }
-    ensures calls { result ≡ count_by (λ b. b) valid.now }
-    ensures items { (i : ℕ) (d : T) → i < length valid.now → bit valid.now i ≡ true → MapsTo (S.item_at source.now i) (F.post apply) (slice_index_or out.new i d) }
+    // The value at an index and the evidence that is joined for it are of one answer.
+    ensures joined { Joined V.join V.neutral (bit valid.now) (λ i v. (d : T) → MapsTo (S.item_at source.now i) (F.post apply) (slice_index_or out.new i d, v)) (length valid.now) result.0 }
+    ensures calls { result.1 ≡ count_by (λ b. b) valid.now }
 {
+    let mut evidence = V::default();
     let mut calls = 0;
     for index in valid.set_indices() {
-        out[index] = apply(source.get(index));
+        let (value, failure) = apply(source.get(index));
+        out[index] = value;
+        evidence |= failure;
         calls += 1;
     }
-    calls
+    (evidence, calls)
 }

@@ -20,6 +20,12 @@ pub fn bytes(alloc: Global, values: &[u8], validity: Validity) -> Result<ArrayRe
     Ok(PrimitiveArray::try_new(values, validity, ctx)?)
 }
 
+/// The validity that is false at one row.
+pub fn all_but(alloc: Global, rows: usize, null: usize) -> Result<Validity, Fail> {
+    let bits = BitBuffer::collect_bool_in(alloc, rows, |i| i != null)?;
+    Ok(Validity::Array(bits))
+}
+
 pub fn args_of_one(alloc: Global, only: ArrayRef, rows: usize) -> Result<ExecutionArgs, Fail> {
     let mut columns = Vec::new(alloc);
     columns.push(only)?;

@@ -1,20 +1,32 @@
 // Row functions that tests run.
+mod calls;
+mod checked_sum;
+mod evidence;
+mod flags;
 mod labelled;
 mod lengths;
+mod ordered;
 mod picky;
 mod plus;
+mod rescaled;
 mod scales;
 mod seven;
+mod small;
 mod sum;
 mod tagged;
 mod tens;
 
+pub use checked_sum::CheckedSum;
+pub use flags::Flags;
 pub use labelled::Labelled;
 pub use lengths::Lengths;
+pub use ordered::Ordered;
 pub use picky::Picky;
 pub use plus::Plus;
+pub use rescaled::Rescaled;
 pub use scales::Scales;
 pub use seven::Seven;
+pub use small::Small;
 pub use sum::Sum;
 pub use tagged::Tagged;
 pub use tens::Tens;

@@ -1,6 +1,6 @@
 // What a prepared visit is given.
-use super::columns::{args_of, column, has_rows};
-use super::functions::Plus;
+use super::columns::{args_of, bytes, column, has_rows};
+use super::functions::{Plus, Rescaled};
 use crate::execute_rows;
 use colbase::{
     ArrayRef, ConstantArray, EmptyOptions, ExecutionCtx, Nullability, PType, Scalar, Validity,
@@ -49,5 +49,39 @@ fn no_column_is_prepared(rt: HostRuntime) -> Result<(), Fail> {
     let sums = execute_rows(&plus, &EmptyOptions, &args, ctx)?;
     assert!(rt; has_rows(&sums, &[Some(4), Some(6)], ctx)?);
     assert!(rt; plus.seen() == (None, None));
+    Ok(())
+}
+
+// 5 and 7 by these scales.
+fn rescaled(alloc: Global, function: &Rescaled, scales: ArrayRef) -> Result<ArrayRef, Fail> {
+    let values = column(alloc, &[5, 7], Validity::NonNullable)?;
+    let args = args_of(alloc, values, scales, 2)?;
+    Ok(execute_rows(function, &EmptyOptions, &args, ExecutionCtx::new(alloc))?)
+}
+
+#[test]
+fn a_constant_scale_is_prepared(rt: HostRuntime) -> Result<(), Fail> {
+    let ctx = ExecutionCtx::new(rt.alloc());
+    let function = Rescaled::new();
+    let two = Scalar::int(2, PType::U8, Nullability::NonNullable);
+    let products = rescaled(rt.alloc(), &function, ConstantArray::try_new(two, 2, ctx)?)?;
+    assert!(rt; has_rows(&products, &[Some(500), Some(700)], ctx)?);
+    assert!(rt; function.seen() == Some((None, Some(2))));
+    Ok(())
+}
+
+#[test]
+fn a_column_of_scales_is_not_prepared(rt: HostRuntime) -> Result<(), Fail> {
+    let function = Rescaled::new();
+    let scales = bytes(rt.alloc(), &[2, 3], Validity::NonNullable)?;
+    let products = rescaled(rt.alloc(), &function, scales)?;
+    assert!(rt;
+        has_rows(
+            &products,
+            &[Some(500), Some(7000)],
+            ExecutionCtx::new(rt.alloc())
+        )?
+    );
+    assert!(rt; function.seen() == Some((None, None)));
     Ok(())
 }

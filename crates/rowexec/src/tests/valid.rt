@@ -1,5 +1,5 @@
 // Batches of functions whose rows run only where no argument is null.
-use super::columns::{args_of, args_of_one, bytes, column, has_rows};
+use super::columns::{all_but, args_of, args_of_one, bytes, column, has_rows};
 use super::functions::{Lengths, Scales, Tens};
 use crate::{Counted, execute_rows, execute_rows_counted};
 use bitlane::BitBuffer;
@@ -15,12 +15,6 @@ fn ran(told: &Counted, rows: &[Option<i64>], steps: u128, ctx: ExecutionCtx) -> 
     };
     let is_nullable = *answer.dtype() == DType::Primitive(PType::I64, Nullability::Nullable);
     Ok(is_nullable && told.steps == steps && has_rows(answer, rows, ctx)?)
-}
-
-// The validity that is false at one row.
-fn all_but(alloc: Global, rows: usize, null: usize) -> Result<Validity, Fail> {
-    let bits = BitBuffer::collect_bool_in(alloc, rows, |i| i != null)?;
-    Ok(Validity::Array(bits))
 }
 
 fn tens(alloc: Global, scales: ArrayRef, rows: usize) -> Result<Counted, Fail> {

@@ -1,9 +1,11 @@
 ghost use Rattle.std.specs.Prelude.{◌≡◌};
 ghost use Rattle.rowtypes.specs.Rows.{ReadsKnown};
 
-use crate::execute::execute_owned_infallible;
+use crate::execute::{
+    accepted_values, execute_owned, execute_owned_infallible, execute_owned_infallible_bool,
+};
 use crate::visitor::Visited;
-use colbase::{ArrayRef, DType, ExecutionCtx, Fault, Res};
+use colbase::{ArrayRef, DType, ExecutionCtx, Fault, Res, RowError};
 use rowplan::{RowSpec, RowVisitor};
 use rowtypes::{ElementTuple, IndexedElementTuple, OutputElement};
 use std::alloc::AllocError;
@@ -20,10 +22,12 @@ pub(crate) struct ExecuteRows<'a, F: RowSpec> {
 }
 
 impl<'a, F: RowSpec> RowVisitor<F> for ExecuteRows<'a, F> {
-    ghost use Rattle.std.specs.Prelude.{◌≡◌, MatchResult, option_map};
+    ghost use Rattle.std.specs.Prelude.{◌≡◌, MatchResult, option_map, ◌⊎◌};
     ghost use Rattle.colbase.specs.LogicalTypeOf.{logical_type};
     ghost use Rattle.colbase.specs.declared.fault.Fault.TheVariants.{Memory};
     ghost use Rattle.rowtypes.specs.Rows.{DecodeFails, logical_types};
+    ghost use Rattle.rowexec.specs.Evidence.{EvidenceFails, joined};
+    ghost use Rattle.rowexec.specs.Rows.{full_cells};
     ghost use Rattle.rowexec.specs.Visits.{DenseColumn, IsReady, RanRows};
 
     type VisitResult = Visited<ArrayRef>;
@@ -38,8 +42,8 @@ impl<'a, F: RowSpec> RowVisitor<F> for ExecuteRows<'a, F> {
 
     ghost gives = { λ s r. MatchResult r
         (λ v. RanRows s.row_count
-        (DenseColumn (F.meaning s.options.now (logical_types s.types.now)) F.Evidence.neutral (F.shown s.options.now (logical_types s.types.now)) (F.output s.options.now (logical_types s.types.now)).storage s.columns.now s.row_count)
-        (DecodeFails (F.reads s.options.now (logical_types s.types.now)) 0 s.columns.now)
+        (DenseColumn F.finish (F.meaning s.options.now (logical_types s.types.now)) (F.shown s.options.now (logical_types s.types.now)) (F.output s.options.now (logical_types s.types.now)).storage s.columns.now s.row_count)
+        (λ e. DecodeFails (F.reads s.options.now (logical_types s.types.now)) 0 s.columns.now e ⊎ EvidenceFails (F.deferred s.options.now (logical_types s.types.now)) F.finish (joined F.Evidence.join F.Evidence.neutral (F.meaning s.options.now (logical_types s.types.now)) (full_cells s.columns.now) s.row_count) e)
         v.answer v.prepares v.steps)
         (λ e. e ≡ Memory) };
 
@@ -76,6 +80,67 @@ impl<'a, F: RowSpec> RowVisitor<F> for ExecuteRows<'a, F> {
             apply,
             self.ctx,
         );
+        Ok(Visited {
+            answer,
+            prepares: 1,
+            steps,
+        })
+    }
+
+    fn visit_bool<Args: IndexedElementTuple, A: Fn(Args::Elems) -> bool>(
+        self,
+        multiversioned: bool,
+        apply: A,
+    ) -> Res<Visited<ArrayRef>> {
+        let decoded = match Args::decode(self.columns, self.ctx) {
+            Ok(decoded) => decoded,
+            Err(fault) => return Ok(Visited::before_the_rows(Err(fault), 0)),
+        };
+        let (answer, steps) = execute_owned_infallible_bool::<Args, A>(
+            &decoded,
+            self.row_count,
+            multiversioned,
+            apply,
+            self.ctx,
+        );
+        Ok(Visited {
+            answer,
+            prepares: 1,
+            steps,
+        })
+    }
+
+    fn visit_prepared_deferred<
+        Args: IndexedElementTuple,
+        Out: OutputElement,
+        P: Drop,
+        R: FnOnce(Args::ConstElems) -> Result<P, AllocError>,
+        A: Fn(&P, Args::Elems) -> (Out, F::Evidence),
+        E: FnOnce(F::Evidence) -> Result<(), RowError>,
+    >(self, prepare: R, apply: A, finish_failure: E) -> Res<Visited<ArrayRef>> {
+        let decoded = match Args::decode(self.columns, self.ctx) {
+            Ok(decoded) => decoded,
+            Err(fault) => return Ok(Visited::before_the_rows(Err(fault), 0)),
+        };
+        let prepared = match prepare(known_values::<Args>(&decoded)) {
+            Ok(prepared) => prepared,
+            Err(AllocError) => return Ok(Visited::before_the_rows(Err(Fault::Memory), 1)),
+        };
+        let (answer, steps) = execute_owned::<Args, Out, F::Evidence, P, A>(
+            &decoded,
+            self.row_count,
+            &prepared,
+            apply,
+            self.ctx,
+        );
+        let answer = match answer {
+            Ok((values, evidence)) => accepted_values::<F::Evidence, E>(
+                values,
+                evidence,
+                finish_failure,
+            ),
+            Err(fault) => Err(fault),
+        };
         Ok(Visited {
             answer,
             prepares: 1,

@@ -2,10 +2,10 @@ ghost use Rattle.std.specs.Prelude.{◌≡◌};
 ghost use Rattle.rowtypes.specs.Rows.{ReadsKnown};
 
 use super::execute::known_values;
-use crate::execute::execute_owned_infallible_filtered;
+use crate::execute::{accepted_values, execute_owned_filtered, execute_owned_infallible_filtered};
 use crate::visitor::Visited;
 use bitlane::BitBuffer;
-use colbase::{ArrayRef, DType, ExecutionCtx, Fault, Res};
+use colbase::{ArrayRef, DType, ExecutionCtx, Fault, Res, RowError};
 use rowplan::{RowSpec, RowVisitor};
 use rowtypes::{IndexedElementTuple, OutputElement};
 use std::alloc::AllocError;
@@ -25,11 +25,13 @@ pub(crate) struct ExecuteFilteredRows<'a, F: RowSpec> {
 }
 
 impl<'a, F: RowSpec> RowVisitor<F> for ExecuteFilteredRows<'a, F> {
-    ghost use Rattle.std.specs.Prelude.{◌≡◌, MatchResult, option_map};
+    ghost use Rattle.std.specs.Prelude.{◌≡◌, MatchResult, option_map, ◌⊎◌};
     ghost use Rattle.colbase.specs.Keep.{trues};
     ghost use Rattle.colbase.specs.LogicalTypeOf.{logical_type};
     ghost use Rattle.colbase.specs.declared.fault.Fault.TheVariants.{Memory};
     ghost use Rattle.rowtypes.specs.Rows.{DecodeFails, logical_types};
+    ghost use Rattle.rowexec.specs.Evidence.{EvidenceFails, joined};
+    ghost use Rattle.rowexec.specs.Rows.{full_cells};
     ghost use Rattle.rowexec.specs.Visits.{FilteredColumn, IsReadyFiltered, RanRows};
 
     type VisitResult = Visited<ArrayRef>;
@@ -44,8 +46,8 @@ impl<'a, F: RowSpec> RowVisitor<F> for ExecuteFilteredRows<'a, F> {
 
     ghost gives = { λ s r. MatchResult r
         (λ v. RanRows (trues s.valid.now)
-        (FilteredColumn (F.meaning s.options.now (logical_types s.types.now)) F.Evidence.neutral (F.output s.options.now (logical_types s.types.now)).storage s.columns.now s.valid.now)
-        (DecodeFails (F.reads s.options.now (logical_types s.types.now)) 0 s.columns.now)
+        (FilteredColumn F.finish (F.meaning s.options.now (logical_types s.types.now)) (F.output s.options.now (logical_types s.types.now)).storage s.columns.now s.valid.now)
+        (λ e. DecodeFails (F.reads s.options.now (logical_types s.types.now)) 0 s.columns.now e ⊎ EvidenceFails (F.deferred s.options.now (logical_types s.types.now)) F.finish (joined F.Evidence.join F.Evidence.neutral (F.meaning s.options.now (logical_types s.types.now)) (full_cells s.columns.now) (trues s.valid.now)) e)
         v.answer v.prepares v.steps)
         (λ e. e ≡ Memory) };
 
@@ -78,6 +80,40 @@ impl<'a, F: RowSpec> RowVisitor<F> for ExecuteFilteredRows<'a, F> {
         let (answer, steps) = execute_owned_infallible_filtered::<Args, Out, P, A>(
             &decoded, self.valid, &prepared, apply, self.ctx,
         );
+        Ok(Visited {
+            answer,
+            prepares: 1,
+            steps,
+        })
+    }
+
+    fn visit_prepared_deferred<
+        Args: IndexedElementTuple,
+        Out: OutputElement,
+        P: Drop,
+        R: FnOnce(Args::ConstElems) -> Result<P, AllocError>,
+        A: Fn(&P, Args::Elems) -> (Out, F::Evidence),
+        E: FnOnce(F::Evidence) -> Result<(), RowError>,
+    >(self, prepare: R, apply: A, finish_failure: E) -> Res<Visited<ArrayRef>> {
+        let decoded = match Args::decode(self.columns, self.ctx) {
+            Ok(decoded) => decoded,
+            Err(fault) => return Ok(Visited::before_the_rows(Err(fault), 0)),
+        };
+        let prepared = match prepare(known_values::<Args>(&decoded)) {
+            Ok(prepared) => prepared,
+            Err(AllocError) => return Ok(Visited::before_the_rows(Err(Fault::Memory), 1)),
+        };
+        let (answer, steps) = execute_owned_filtered::<Args, Out, F::Evidence, P, A>(
+            &decoded, self.valid, &prepared, apply, self.ctx,
+        );
+        let answer = match answer {
+            Ok((values, evidence)) => accepted_values::<F::Evidence, E>(
+                values,
+                evidence,
+                finish_failure,
+            ),
+            Err(fault) => Err(fault),
+        };
         Ok(Visited {
             answer,
             prepares: 1,

@@ -1,6 +1,8 @@
-ghost use Rattle.std.specs.Prelude.{◌≡◌};
+ghost use Rattle.std.specs.Prelude.{◌≡◌, ◌<◌, ◌+◌, ◌^◌, Err, MatchResult, Ok, Some};
+ghost use Rattle.rowexec.specs.declared.execute.retry.DenseAttempt.TheVariants.{Values};
 
-use colbase::Res;
+use crate::execute::DenseAttempt;
+use colbase::{ArrayRef, Res};
 
 /// What a visit answered, and how often it called.
 #[derive(Drop)]
@@ -24,6 +26,58 @@ impl<T> Visited<T> {
             answer,
             prepares,
             steps: 0,
+        }
+    }
+
+    /// The same after an earlier visit with these calls.
+    pub(crate) fn after(self, prepares: u128, steps: u128) -> Visited<T>
+        requires prepares { prepares + self.prepares < 2 ^ 128 }
+        requires steps { steps + self.steps < 2 ^ 128 }
+        ensures answer { result.answer ≡ self.answer }
+        ensures prepares { result.prepares ≡ prepares + self.prepares }
+        ensures steps { result.steps ≡ steps + self.steps }
+    {
+        Visited {
+            answer: self.answer,
+            prepares: prepares + self.prepares,
+            steps: steps + self.steps,
+        }
+    }
+}
+
+impl Visited<ArrayRef> {
+    /// The same, where values may be missing but aren't.
+    pub(crate) fn some_values(self) -> Visited<Option<ArrayRef>>
+        ensures answer { MatchResult self.answer (λ a. result.answer ≡ Ok (Some a)) (λ e. result.answer ≡ Err e) }
+        ensures prepares { result.prepares ≡ self.prepares }
+        ensures steps { result.steps ≡ self.steps }
+    {
+        let told = self.answer;
+        let answer = match told {
+            Ok(values) => Ok(Some(values)),
+            Err(fault) => Err(fault),
+        };
+        Visited {
+            answer,
+            prepares: self.prepares,
+            steps: self.steps,
+        }
+    }
+    /// The same as an attempt in which nothing was rejected.
+    pub(crate) fn accepted(self) -> Visited<DenseAttempt>
+        ensures answer { MatchResult self.answer (λ a. result.answer ≡ Ok (Values a)) (λ e. result.answer ≡ Err e) }
+        ensures prepares { result.prepares ≡ self.prepares }
+        ensures steps { result.steps ≡ self.steps }
+    {
+        let told = self.answer;
+        let answer = match told {
+            Ok(values) => Ok(DenseAttempt::Values(values)),
+            Err(fault) => Err(fault),
+        };
+        Visited {
+            answer,
+            prepares: self.prepares,
+            steps: self.steps,
         }
     }
 }

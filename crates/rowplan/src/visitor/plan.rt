@@ -1,10 +1,10 @@
 ghost use Rattle.std.specs.Prelude.{◌≡◌, None};
-ghost use Rattle.rowplan.specs.Policies.{owned_policy};
+ghost use Rattle.rowplan.specs.Policies.{deferred_policy, owned_policy};
 
 use crate::batch_plan::{BatchPlan, RowPolicy};
 use crate::row_spec::RowSpec;
 use crate::visitor::RowVisitor;
-use colbase::{DType, ExecutionCtx, Res};
+use colbase::{DType, ExecutionCtx, Res, RowError};
 use rowtypes::{ElementTuple, IndexedElementTuple, OutputElement};
 use std::alloc::AllocError;
 
@@ -71,6 +71,18 @@ impl<'a, F: RowSpec> RowVisitor<F> for BatchPlanner<'a, F> {
         Args::validate(self.types)?;
         BatchPlan::new(Out::element_dtype(), self.label, owned_policy::<Args>())
     }
+
+    fn visit_prepared_deferred<
+        Args: IndexedElementTuple,
+        Out: OutputElement,
+        P: Drop,
+        R: FnOnce(Args::ConstElems) -> Result<P, AllocError>,
+        A: Fn(&P, Args::Elems) -> (Out, F::Evidence),
+        E: FnOnce(F::Evidence) -> Result<(), RowError>,
+    >(self, _prepare: R, _apply: A, _finish_failure: E) -> Res<BatchPlan> {
+        Args::validate(self.types)?;
+        BatchPlan::new(Out::element_dtype(), self.label, deferred_policy::<Args>())
+    }
 }
 
 // The policy of a visit that writes one value a row.
@@ -79,6 +91,17 @@ fn owned_policy<Args: ElementTuple>() -> RowPolicy
 {
     if Args::DENSE_SAFE && Args::DECODE_INFALLIBLE {
         RowPolicy::Dense
+    } else {
+        RowPolicy::ValidOnly
+    }
+}
+
+// The policy of a visit that writes one value a row and whose failures are evidence.
+fn deferred_policy<Args: ElementTuple>() -> RowPolicy
+    ensures { result ≡ deferred_policy Args.DENSE_SAFE Args.DECODE_INFALLIBLE }
+{
+    if Args::DENSE_SAFE && Args::DECODE_INFALLIBLE {
+        RowPolicy::DenseWithRetry
     } else {
         RowPolicy::ValidOnly
     }

@@ -3,7 +3,7 @@ ghost use Rattle.std.specs.Prelude.{Ok};
 ghost use Rattle.std.specs.Borrow.{Bor};
 
 use crate::row_spec::RowSpec;
-use colbase::{DType, Res};
+use colbase::{DType, Res, RowError};
 use rowtypes::{IndexedElementTuple, OutputElement};
 use std::alloc::AllocError;
 
@@ -23,9 +23,11 @@ pub trait RowVisitor<F: RowSpec>: Sized + Drop {
     ghost use Rattle.colbase.specs.declared.dtype.Nullability.TheVariants.{NonNullable as not_nullable};
     ghost use Rattle.colbase.specs.LogicalTypeOf.{logical_type};
     ghost use Rattle.colbase.specs.declared.fault.Fault.{Fault};
+    ghost use Rattle.std.specs.Prelude.{⊤};
+    ghost use Rattle.colbase.specs.declared.fault.RowError.{RowError};
     ghost use Rattle.rowtypes.specs.Rows.{AgreesWith, ReadsFrom, ReadsKnown};
-    ghost use Rattle.rowplan.specs.Outcomes.{done};
-    ghost use Rattle.rowplan.specs.Policies.{owned_policy};
+    ghost use Rattle.rowplan.specs.Outcomes.{done, judged};
+    ghost use Rattle.rowplan.specs.Policies.{deferred_policy, owned_policy};
     ghost use Rattle.rowplan.specs.Visits.{SelectsElements, SelectsOutput};
 
     type VisitResult: Drop;
@@ -111,5 +113,114 @@ pub trait RowVisitor<F: RowSpec>: Sized + Drop {
     {
         let _ = multiversioned;
         self.visit::<Args, bool, A>(apply)
+    }
+
+    /// Runs a callback that gives a value and evidence for each row, with a value that `prepare` makes once from the
+    /// arguments that are one value. The evidence of the rows is joined, and `finish_failure` judges it once.
+    fn visit_prepared_deferred<
+        Args: IndexedElementTuple,
+        Out: OutputElement,
+        P: Drop,
+        R: FnOnce(Args::ConstElems) -> Result<P, AllocError>,
+        A: Fn(&P, Args::Elems) -> (Out, F::Evidence),
+        E: FnOnce(F::Evidence) -> Result<(), RowError>,
+    >(self, prepare: R, apply: A, finish_failure: E) -> Res<Self::VisitResult>
+        requires ready { ready self }
+        requires elements { SelectsElements Args.ARITY F.arity Args.accepts (F.fits (options self) (types self)) Args.reads (F.reads (options self) (types self)) Args.shown (F.shown (options self) (types self)) (types self) }
+        requires output { SelectsOutput Out.element_type (Out.states Out.placeholder) (F.output (options self) (types self)) (label self) (F.placeholder (options self) (types self)) (F.room (options self) (types self)) }
+        requires policy { F.policy (options self) (types self) ≡ deferred_policy Args.DENSE_SAFE Args.DECODE_INFALLIBLE }
+        requires deferred { F.deferred (options self) (types self) ≡ true }
+        requires fallible { F.INFALLIBLE ≡ false }
+        requires prepares { (k : Args.ConstElems) → ReadsKnown Args.reads 0 (Args.known k) → R.pre prepare k }
+        // The callback is lent the value that was prepared.
+        requires callable { (k : Args.ConstElems) (p : P) (q : Bor P) (e : Args.Elems) → ReadsKnown Args.reads 0 (Args.known k) → R.post prepare k (Ok p) → q.now ≡ p → ReadsFrom Args.reads 0 (Args.cells e) → AgreesWith (Args.known k) (Args.cells e) → A.pre apply q e }
+        requires agrees { (k : Args.ConstElems) (p : P) (q : Bor P) (e : Args.Elems) (r : Out × F.Evidence) → ReadsKnown Args.reads 0 (Args.known k) → R.post prepare k (Ok p) → q.now ≡ p → ReadsFrom Args.reads 0 (Args.cells e) → AgreesWith (Args.known k) (Args.cells e) → A.post apply q e r → F.meaning (options self) (types self) (Args.cells e) ≡ done (Out.states r.0) r.1 }
+        requires judges { (v : F.Evidence) → F.Evidence.in_range v → E.pre finish_failure v }
+        requires finishes { (v : F.Evidence) (r : Result ⊤ RowError) → F.Evidence.in_range v → E.post finish_failure v r → r ≡ judged (F.finish v) }
+        ensures { gives self result };
+
+    /// Runs a callback that gives a value and evidence for each row.
+    fn visit_deferred<
+        Args: IndexedElementTuple,
+        Out: OutputElement,
+        A: Fn(Args::Elems) -> (Out, F::Evidence),
+        E: FnOnce(F::Evidence) -> Result<(), RowError>,
+    >(self, apply: A, finish_failure: E) -> Res<Self::VisitResult>
+        requires ready { ready self }
+        requires elements { SelectsElements Args.ARITY F.arity Args.accepts (F.fits (options self) (types self)) Args.reads (F.reads (options self) (types self)) Args.shown (F.shown (options self) (types self)) (types self) }
+        requires output { SelectsOutput Out.element_type (Out.states Out.placeholder) (F.output (options self) (types self)) (label self) (F.placeholder (options self) (types self)) (F.room (options self) (types self)) }
+        requires policy { F.policy (options self) (types self) ≡ deferred_policy Args.DENSE_SAFE Args.DECODE_INFALLIBLE }
+        requires deferred { F.deferred (options self) (types self) ≡ true }
+        requires fallible { F.INFALLIBLE ≡ false }
+        requires callable { (e : Args.Elems) → ReadsFrom Args.reads 0 (Args.cells e) → A.pre apply e }
+        requires agrees { (e : Args.Elems) (r : Out × F.Evidence) → ReadsFrom Args.reads 0 (Args.cells e) → A.post apply e r → F.meaning (options self) (types self) (Args.cells e) ≡ done (Out.states r.0) r.1 }
+        requires judges { (v : F.Evidence) → F.Evidence.in_range v → E.pre finish_failure v }
+        requires finishes { (v : F.Evidence) (r : Result ⊤ RowError) → F.Evidence.in_range v → E.post finish_failure v r → r ≡ judged (F.finish v) }
+        ensures { gives self result }
+    {
+        self.visit_prepared_deferred::<Args, Out, (), _, _, E>(
+            |_: Args::ConstElems| Ok(()),
+            |_nothing: &(), elems: Args::Elems| -> (Out, F::Evidence)
+                requires { A.pre apply elems }
+                ensures { A.post apply elems result }
+            { apply(elems) },
+            finish_failure,
+        )
+    }
+
+    /// Runs a callback that gives a truth value and evidence for each row, with a prepared value. `multiversioned` changes no
+    /// result.
+    fn visit_prepared_deferred_bool<
+        Args: IndexedElementTuple,
+        P: Drop,
+        R: FnOnce(Args::ConstElems) -> Result<P, AllocError>,
+        A: Fn(&P, Args::Elems) -> (bool, F::Evidence),
+        E: FnOnce(F::Evidence) -> Result<(), RowError>,
+    >(self, multiversioned: bool, prepare: R, apply: A, finish_failure: E) -> Res<Self::VisitResult>
+        requires ready { ready self }
+        requires elements { SelectsElements Args.ARITY F.arity Args.accepts (F.fits (options self) (types self)) Args.reads (F.reads (options self) (types self)) Args.shown (F.shown (options self) (types self)) (types self) }
+        requires output { SelectsOutput (bool_type not_nullable) (truth false) (F.output (options self) (types self)) (label self) (F.placeholder (options self) (types self)) (F.room (options self) (types self)) }
+        requires policy { F.policy (options self) (types self) ≡ deferred_policy Args.DENSE_SAFE Args.DECODE_INFALLIBLE }
+        requires deferred { F.deferred (options self) (types self) ≡ true }
+        requires fallible { F.INFALLIBLE ≡ false }
+        requires prepares { (k : Args.ConstElems) → ReadsKnown Args.reads 0 (Args.known k) → R.pre prepare k }
+        // The callback is lent the value that was prepared.
+        requires callable { (k : Args.ConstElems) (p : P) (q : Bor P) (e : Args.Elems) → ReadsKnown Args.reads 0 (Args.known k) → R.post prepare k (Ok p) → q.now ≡ p → ReadsFrom Args.reads 0 (Args.cells e) → AgreesWith (Args.known k) (Args.cells e) → A.pre apply q e }
+        requires agrees { (k : Args.ConstElems) (p : P) (q : Bor P) (e : Args.Elems) (r : Bool × F.Evidence) → ReadsKnown Args.reads 0 (Args.known k) → R.post prepare k (Ok p) → q.now ≡ p → ReadsFrom Args.reads 0 (Args.cells e) → AgreesWith (Args.known k) (Args.cells e) → A.post apply q e r → F.meaning (options self) (types self) (Args.cells e) ≡ done (truth r.0) r.1 }
+        requires judges { (v : F.Evidence) → F.Evidence.in_range v → E.pre finish_failure v }
+        requires finishes { (v : F.Evidence) (r : Result ⊤ RowError) → F.Evidence.in_range v → E.post finish_failure v r → r ≡ judged (F.finish v) }
+        ensures { gives self result }
+    {
+        let _ = multiversioned;
+        self.visit_prepared_deferred::<Args, bool, P, R, A, E>(prepare, apply, finish_failure)
+    }
+
+    /// Runs a callback that gives a truth value and evidence for each row. `multiversioned` changes no result.
+    fn visit_deferred_bool<
+        Args: IndexedElementTuple,
+        A: Fn(Args::Elems) -> (bool, F::Evidence),
+        E: FnOnce(F::Evidence) -> Result<(), RowError>,
+    >(self, multiversioned: bool, apply: A, finish_failure: E) -> Res<Self::VisitResult>
+        requires ready { ready self }
+        requires elements { SelectsElements Args.ARITY F.arity Args.accepts (F.fits (options self) (types self)) Args.reads (F.reads (options self) (types self)) Args.shown (F.shown (options self) (types self)) (types self) }
+        requires output { SelectsOutput (bool_type not_nullable) (truth false) (F.output (options self) (types self)) (label self) (F.placeholder (options self) (types self)) (F.room (options self) (types self)) }
+        requires policy { F.policy (options self) (types self) ≡ deferred_policy Args.DENSE_SAFE Args.DECODE_INFALLIBLE }
+        requires deferred { F.deferred (options self) (types self) ≡ true }
+        requires fallible { F.INFALLIBLE ≡ false }
+        requires callable { (e : Args.Elems) → ReadsFrom Args.reads 0 (Args.cells e) → A.pre apply e }
+        requires agrees { (e : Args.Elems) (r : Bool × F.Evidence) → ReadsFrom Args.reads 0 (Args.cells e) → A.post apply e r → F.meaning (options self) (types self) (Args.cells e) ≡ done (truth r.0) r.1 }
+        requires judges { (v : F.Evidence) → F.Evidence.in_range v → E.pre finish_failure v }
+        requires finishes { (v : F.Evidence) (r : Result ⊤ RowError) → F.Evidence.in_range v → E.post finish_failure v r → r ≡ judged (F.finish v) }
+        ensures { gives self result }
+    {
+        self.visit_prepared_deferred_bool::<Args, (), _, _, E>(
+            multiversioned,
+            |_: Args::ConstElems| Ok(()),
+            |_nothing: &(), elems: Args::Elems| -> (bool, F::Evidence)
+                requires { A.pre apply elems }
+                ensures { A.post apply elems result }
+            { apply(elems) },
+            finish_failure,
+        )
     }
 }

@@ -43,7 +43,7 @@ impl ColumnValue for bool {
 pub(super) fn bool_in(value: &Value, ctx: ExecutionCtx) -> Result<ArrayRef, Stop>
     ensures { Gives (λ a. a) result (bool_in (view value.now)) }
 {
-    let dtype = type_in(value).ok_or(Stop::NoBatch)?;
+    let dtype = type_in(value, ctx)?;
     let nullability = as_bool_type(&dtype).ok_or(Stop::NoBatch)?;
     let items = array_in(value, "values").ok_or(Stop::NoBatch)?;
     let valid = valid_in(value, nullability, ctx)?;

@@ -15,7 +15,7 @@ use serde_json::Value;
 pub(super) fn constant_in(value: &Value, ctx: ExecutionCtx) -> Result<ArrayRef, Stop>
     ensures { Gives (λ a. a) result (constant_in (view value.now)) }
 {
-    let dtype = type_in(value).ok_or(Stop::NoBatch)?;
+    let dtype = type_in(value, ctx)?;
     let stated = value.get("value").ok_or(Stop::NoBatch)?;
     let scalar = scalar_in(&dtype, stated).ok_or(Stop::NoBatch)?;
     let rows = number_in(value, "len").ok_or(Stop::NoBatch)?;

@@ -52,7 +52,7 @@ fn integer_array(
 pub(super) fn primitive_in(value: &Value, ctx: ExecutionCtx) -> Result<ArrayRef, Stop>
     ensures { Gives (λ a. a) result (primitive_in (view value.now)) }
 {
-    let dtype = type_in(value).ok_or(Stop::NoBatch)?;
+    let dtype = type_in(value, ctx)?;
     let (ptype, nullability) = as_integer_type(&dtype).ok_or(Stop::NoBatch)?;
     let items = array_in(value, "values").ok_or(Stop::NoBatch)?;
     let valid = valid_in(value, nullability, ctx)?;

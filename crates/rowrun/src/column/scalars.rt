@@ -3,13 +3,12 @@ ghost use Rattle.std.specs.Prelude.{◌≡◌, Some, None, option_and_then};
 ghost use Rattle.serde_json.specs.Find.{as_number, as_integer};
 ghost use Rattle.serde_json.specs.View.{view};
 ghost use Rattle.colbase.specs.Fits.{in_range};
-ghost use Rattle.colbase.specs.LogicalType as types;
-ghost use Rattle.colbase.specs.LogicalTypeOf.{logical_type};
+ghost use Rattle.colbase.specs.LogicalTypeOf.{extension_type, logical_type};
 ghost use Rattle.colbase.specs.declared.dtype.DType.TheVariants as dtypes;
 ghost use Rattle.colbase.specs.declared.scalar.ScalarValue.TheVariants as value;
 ghost use Rattle.rowrun.specs.Scalars.{scalar_in, scalar_of};
 
-use colbase::{DType, Nullability, PType, Scalar};
+use colbase::{DType, ExtDType, Nullability, PType, Scalar};
 use serde_json::Value;
 
 /// The null of the type, where the type is nullable.
@@ -62,46 +61,39 @@ fn integer_in(value: &Value) -> Option<i128>
     value.as_number()?.as_i128()
 }
 
-#[tactic(auto, unfolding(crate::specs::Scalars::scalar_in))]
-fn null_in(value: &Value) -> Option<Scalar>
-    ensures { result ≡ scalar_in types.null (view value.now) }
+/// A scalar of the storage's value under a named type.
+fn under_name(ext: ExtDType, storage: Scalar) -> Scalar
+    requires { storage.dtype ≡ ext.storage }
+    ensures dtype { result.dtype ≡ dtypes.Extension ext }
+    ensures value { result.value ≡ storage.value }
 {
-    if value.is_null() {
-        null_of(DType::Null)
-    } else {
-        None
-    }
+    Scalar::extension(ext, storage)
 }
 
-#[tactic(auto, unfolding(crate::specs::Scalars::scalar_in))]
-fn truth_in(value: &Value, nullability: Nullability) -> Option<Scalar>
-    ensures { result ≡ scalar_in (types.bool nullability) (view value.now) }
+/// The scalar of an extension type that the value states.
+#[cycle(scalar)]
+fn extension_in(ext: &ExtDType, value: &Value) -> Option<Scalar>
+    ensures { result ≡ scalar_in (extension_type ext.now) (view value.now) }
 {
-    if value.is_null() {
-        return null_of(DType::Bool(nullability));
-    }
-    Some(truth_of(value.as_bool()?, nullability))
-}
-
-#[tactic(auto, unfolding(crate::specs::Scalars::scalar_in))]
-fn number_in(value: &Value, ptype: PType, nullability: Nullability) -> Option<Scalar>
-    ensures { result ≡ scalar_in (types.primitive ptype nullability) (view value.now) }
-{
-    if value.is_null() {
-        return null_of(DType::Primitive(ptype, nullability));
-    }
-    number_of(integer_in(value)?, ptype, nullability)
+    let storage = scalar_in(ext.storage.get(), value)?;
+    Some(under_name(ext.share(), storage))
 }
 
 /// The scalar of this type that the value states.
+#[cycle(scalar)]
 #[tactic(auto, unfolding(crate::specs::Scalars::scalar_in))]
 pub(super) fn scalar_in(dtype: &DType, value: &Value) -> Option<Scalar>
     ensures { result ≡ scalar_in (logical_type dtype.now) (view value.now) }
 {
+    if value.is_null() {
+        return null_of(dtype.share());
+    }
     match dtype {
-        DType::Null => null_in(value),
-        DType::Bool(nullability) => truth_in(value, *nullability),
-        DType::Primitive(ptype, nullability) => number_in(value, *ptype, *nullability),
+        DType::Bool(nullability) => Some(truth_of(value.as_bool()?, *nullability)),
+        DType::Primitive(ptype, nullability) => {
+            number_of(integer_in(value)?, *ptype, *nullability)
+        }
+        DType::Extension(ext) => extension_in(ext, value),
         _ => None,
     }
 }

@@ -1,11 +1,14 @@
 // The types of columns.
-ghost use Rattle.std.specs.Prelude.{◌≡◌, option_map};
+ghost use Rattle.std.specs.Prelude.{◌≡◌, option_map, option_and_then, codes};
 ghost use Rattle.colbase.specs.LogicalTypeOf.{logical_type};
+ghost use Rattle.serde_json.specs.Find.{get};
 ghost use Rattle.serde_json.specs.View.{view};
-ghost use Rattle.rowrun.specs.Types.{plain_name, name_nullability, integer_named, marked_type, type_named, type_in, as_integer_type, as_bool_type};
+ghost use Rattle.rowrun.specs.Reading.{Gives};
+ghost use Rattle.rowrun.specs.Types.{plain_name, name_nullability, integer_named, marked_type, type_named, type_of, type_over, type_in, as_integer_type, as_bool_type};
 
-use crate::tree::text_in;
-use colbase::{DType, Nullability, PType};
+use super::extension::extension_stated;
+use crate::tree::Stop;
+use colbase::{DType, ExecutionCtx, Nullability, PType};
 use serde_json::Value;
 
 /// A type's name without the `?` that makes it nullable.
@@ -60,12 +63,33 @@ fn type_named(name: &str) -> Option<DType>
     marked_type(plain, nullability)
 }
 
+/// The type that a value states.
+#[cycle(types)]
+pub(super) fn type_of(value: &Value, ctx: ExecutionCtx) -> Result<DType, Stop>
+    ensures { Gives logical_type result (type_of (view value.now)) }
+{
+    type_by_form(value, ctx)
+}
+
+/// The same, where the type that the member `storage` states may be built.
+#[cycle(types)]
+#[tactic(auto, unfolding(crate::specs::Types::type_over))]
+fn type_by_form(value: &Value, ctx: ExecutionCtx) -> Result<DType, Stop>
+    ensures { Gives logical_type result (type_over (view value.now) (option_and_then type_of (get (codes "storage") (view value.now)))) }
+{
+    if let Some(name) = value.as_str() {
+        return type_named(name).ok_or(Stop::NoBatch);
+    }
+    let storage = value.get("storage").ok_or(Stop::NoBatch)?;
+    extension_stated(value, type_of(storage, ctx)?, ctx)
+}
+
 /// The type by the key `type`.
 #[tactic(auto, unfolding(crate::specs::Types::type_in))]
-pub(super) fn type_in(value: &Value) -> Option<DType>
-    ensures { option_map logical_type result ≡ type_in (view value.now) }
+pub(super) fn type_in(value: &Value, ctx: ExecutionCtx) -> Result<DType, Stop>
+    ensures { Gives logical_type result (type_in (view value.now)) }
 {
-    type_named(text_in(value, "type")?)
+    type_of(value.get("type").ok_or(Stop::NoBatch)?, ctx)
 }
 
 /// An integer type, and whether it is nullable.

@@ -1,8 +1,8 @@
 // The values of a column, with or without nulls.
 ghost use Rattle.std.specs.Prelude.{◌≡◌, List, Option, Some, IfOk, IsErrOf, None};
 ghost use Rattle.serde_json.specs.View.{view, items_view};
-ghost use Rattle.rowrun.specs.Columns.{value_or_null, array_of};
-ghost use Rattle.rowrun.specs.Objects.{all_in};
+ghost use Rattle.rowrun.specs.Columns.{array_of};
+ghost use Rattle.rowrun.specs.Objects.{value_or_null, all_in};
 ghost use Rattle.rowrun.specs.Reading.{Gives, AreOf};
 
 use super::validity::marked;

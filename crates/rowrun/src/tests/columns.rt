@@ -6,7 +6,7 @@ use std::alloc::Global;
 use std::test::Fail;
 
 /// The column that an object with these members states.
-fn column(alloc: Global, members: &str) -> Result<Option<ArrayRef>, Fail> {
+pub(super) fn column(alloc: Global, members: &str) -> Result<Option<ArrayRef>, Fail> {
     let text = format!(in alloc; "{{{members}}}")?;
     let value = match json_in(alloc, text.as_bytes()) {
         Ok(value) => value,
@@ -42,7 +42,7 @@ fn truths(alloc: Global, dtype: &str, values: &str, more: &str) -> Result<Option
 }
 
 /// Whether these numbers are stored.
-fn stores(array: &ArrayRef, wanted: &[i128]) -> bool {
+pub(super) fn stores(array: &ArrayRef, wanted: &[i128]) -> bool {
     let Some(values) = array.values() else {
         return false;
     };
@@ -74,7 +74,7 @@ fn stores_bits(array: &ArrayRef, wanted: &[bool]) -> bool {
 }
 
 /// Whether the rows are valid where these marks say so.
-fn has_marks(array: &ArrayRef, wanted: &[bool]) -> bool {
+pub(super) fn has_marks(array: &ArrayRef, wanted: &[bool]) -> bool {
     if array.len() != wanted.len() {
         return false;
     }
@@ -86,7 +86,7 @@ fn has_marks(array: &ArrayRef, wanted: &[bool]) -> bool {
     true
 }
 
-fn stated(column: Option<ArrayRef>) -> Result<ArrayRef, Fail> {
+pub(super) fn stated(column: Option<ArrayRef>) -> Result<ArrayRef, Fail> {
     Ok(column.ok_or("no column")?)
 }
 

@@ -1,26 +1,35 @@
 ghost use Rattle.std.specs.Prelude.{◌≡◌, ◌⊎◌, true, false, length, Option, IfOk, IfErr, IfSome, Err, is_some};
 
+use super::calls::Calls;
 use bitlane::NoFailure;
 use colbase::{DType, EmptyOptions, ExecutionCtx, Fault, Res};
 use rowplan::{RowFn, RowSpec, RowVisitor};
 use std::cell::Cell;
 
-/// The sum of two numbers modulo 2^64, by a prepared visit. It notes the constants that `prepare` was last given.
+/// The sum of two numbers modulo 2^64, by a prepared visit. It notes the constants that `prepare` was last
+/// given, and counts the calls of its callback.
 #[derive(Drop)]
 pub struct Plus {
     seen: Cell<(Option<i64>, Option<i64>)>,
+    calls: Calls,
 }
 
 impl Plus {
     pub fn new() -> Plus {
         Plus {
             seen: Cell::new((None, None)),
+            calls: Calls::new(),
         }
     }
 
     /// The constants that `prepare` was last given.
     pub fn seen(&self) -> (Option<i64>, Option<i64>) {
         self.seen.get()
+    }
+
+    /// How often the callback was called.
+    pub fn calls(&self) -> u64 {
+        self.calls.count()
     }
 }
 
@@ -115,9 +124,12 @@ impl RowFn for Plus {
                 self.seen.set(known);
                 Ok(known.1)
             },
-            |second: &Option<i64>, pair: (i64, i64)| match *second {
-                Some(value) => pair.0.wrapping_add(value),
-                None => pair.0.wrapping_add(pair.1),
+            |second: &Option<i64>, pair: (i64, i64)| {
+                self.calls.raise();
+                match *second {
+                    Some(value) => pair.0.wrapping_add(value),
+                    None => pair.0.wrapping_add(pair.1),
+                }
             },
         )
     }

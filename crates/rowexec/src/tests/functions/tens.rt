@@ -104,8 +104,8 @@ impl RowFn for Tens {
     }
 }
 
-// 10 to the power of a scale.
-fn power_of_ten(scale: u8) -> i64
+/// 10 to the power of a scale.
+pub fn power_of_ten(scale: u8) -> i64
     requires { scale ≤ 18 }
     ensures { result ≡ pos (10 ^ scale) }
 {

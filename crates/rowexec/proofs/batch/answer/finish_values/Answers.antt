@@ -39,14 +39,13 @@ returns-clause-rows g c =
     let full = c.args.full.now in
     let finish = g.F.RowSpec.finish in
     let meaning = g.F.RowSpec.meaning c.args.options.now types in
-    let neutral = g.F.Evidence.FailureEvidence.neutral in
     let given = c.requires.values in
     ok_then (λ a. rows a ≡ rows masked) (λ a. (i : ℕ) → i < n → StrictRow finish meaning (full_cells columns i) (row a i)) c.relabel_output.result
     (λ a e i h.
     let hm : i < len masked = subst (λ m. i < m) (sym (c.in_ok-masked.ensures.len ∙ given.counted)) h in
     let hv : i < len values = subst (λ m. i < m) (sym given.counted) h in
     let here = row_of_table a (row masked) (len masked) e i hm ∙ c.in_ok-masked.ensures.rows i hv in
-    strict_row finish meaning neutral (full_cells columns i) (valid_at full i) (row a i) (row values i) g.met.F.RowSpec.finish_laws.accepts_neutral (c.requires.tells i h) here (λ cs k. given.each i cs h k))
+    strict_row finish meaning (full_cells columns i) (valid_at full i) (row a i) (row values i) (c.requires.tells i h) here (λ cs k. given.each i cs h k))
     c.relabel_output.ensures.rows
 
 pub returns-clause-dtype : goal.returns-clause-dtype

@@ -13,5 +13,5 @@ null_answer-requires g c = ap any_nullable (c.requires.types ∙ ap types_of (sy
 pub full_rows-requires : goal.full_rows-requires
 full_rows-requires g c = rows_from c.row_count-2.result 0 c.columns-2.result.now (cc (c.columns-2.ensures, c.row_count-2.ensures, c.requires.fits.rows))
 
-pub execute_selected-requires-clause-rows : goal.execute_selected-requires-clause-rows
-execute_selected-requires-clause-rows g c = rows_from c.args.args.now.row_count 0 c.args.args.now.columns c.requires.fits.rows
+pub execute_selected-answer-requires-clause-rows : goal.execute_selected-answer-requires-clause-rows
+execute_selected-answer-requires-clause-rows g c = rows_from c.args.args.now.row_count 0 c.args.args.now.columns c.requires.fits.rows

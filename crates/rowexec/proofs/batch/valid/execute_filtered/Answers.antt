@@ -39,5 +39,5 @@ returns-in-Ok-dispatch g c =
     let visited = c.in-Ok-dispatch.visited in
     elim (c.in-Ok-dispatch.ensures.gives (ap (g.F.RowSpec.accepts options) c.requires.types ∙ c.requires.planned.accepted)) [
       | inl e ↦ absurd (cc)
-      | inr ran ↦ ran_kept (g.F.RowSpec.meaning options) g.F.Evidence.FailureEvidence.neutral (λ ts. (g.F.RowSpec.output options ts).storage) (g.F.RowSpec.reads options) types (types_of columns) marks columns news visited.answer visited.prepares visited.steps c.requires.types c.requires.rows c.requires.full from ran
+      | inr ran ↦ ran_kept g.F.RowSpec.finish g.F.Evidence.FailureEvidence.join g.F.Evidence.FailureEvidence.neutral (g.F.RowSpec.meaning options) (g.F.RowSpec.deferred options) (λ ts. (g.F.RowSpec.output options ts).storage) (g.F.RowSpec.reads options) types (types_of columns) marks columns news visited.answer visited.prepares visited.steps c.requires.types c.requires.rows c.requires.full from ran
     ]

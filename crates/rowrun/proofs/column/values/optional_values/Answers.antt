@@ -1,6 +1,6 @@
 use Rattle.std.proofs.Common.{◌≡◌, arith, length, ◌<◌, ◌++◌, ◌∷◌, [], ◌∙◌, sym, ap, Bool}
 use Rattle.std.specs.Prelude.{unwrap_or, is_some}
-use Rattle.rowrun.specs.Columns.{value_or_null}
+use Rattle.rowrun.specs.Objects.{value_or_null}
 use Rattle.rowrun.proofs.Items.{read_more}
 use Rattle.rowrun.proofs.column.values.optional_values.Goals as goal
 

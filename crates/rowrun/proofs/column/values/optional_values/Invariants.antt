@@ -1,7 +1,6 @@
 use Rattle.std.proofs.Common.{drop}
 use Rattle.serde_json.specs.View.{items_view}
-use Rattle.rowrun.specs.Columns.{value_or_null}
-use Rattle.rowrun.specs.Objects.{all_in}
+use Rattle.rowrun.specs.Objects.{value_or_null, all_in}
 use Rattle.rowrun.proofs.Items.{HasRead}
 use Rattle.rowrun.proofs.column.values.optional_values.Given as goal
 

@@ -1,8 +1,9 @@
-use Rattle.std.proofs.Common.{◌≡◌, ◌∙◌, ◌<◌, ℕ, List, length, sym, ap, subst, refl, arith}
+use Rattle.std.proofs.Common.{◌≡◌, ◌∙◌, ◌<◌, ℕ, List, length, sym, ap, subst, refl, inl, arith}
 use Rattle.std.specs.Prelude.{Some}
 use Rattle.colbase.specs.Cell.{Cell}
 use Rattle.rowtypes.specs.Rows.{AgreesWith, ReadsFrom, ReadsKnown, each_length, logical_types}
 use Rattle.rowtypes.proofs.Lengths.{has_row}
+use Rattle.rowexec.specs.Evidence.{EvidenceFails, joined}
 use Rattle.rowexec.specs.Rows.{full_cells}
 use Rattle.rowexec.proofs.Batches.{accepts_same, as_many_types, fails_same, shown_same}
 use Rattle.rowexec.proofs.FullRows.{shown_full}
@@ -18,7 +19,7 @@ pub decode-requires-clause-types : goal.decode-requires-clause-types
 decode-requires-clause-types g c = accepts_same g.Args.ElementTuple.accepts (g.F.RowSpec.fits c.args.self.options.now (logical_types c.args.self.types.now)) c.requires.elements.fits 0 c.args.self.columns.now c.requires.ready.accepted
 
 pub returns-in-Err : goal.returns-in-Err
-returns-in-Err g c = failed_before _ _ _ c.before_the_rows.result.answer c.in-Err.fault c.before_the_rows.result.prepares c.before_the_rows.result.steps c.before_the_rows.ensures.answer (omega (arith, c.before_the_rows.ensures.prepares)) c.before_the_rows.ensures.steps (fails_same g.Args.ElementTuple.reads (g.F.RowSpec.reads c.args.self.options.now (logical_types c.args.self.types.now)) c.requires.elements.reads 0 c.args.self.columns.now c.in-Err.fault c.in-Err.ensures.errors)
+returns-in-Err g c = failed_before _ _ _ c.before_the_rows.result.answer c.in-Err.fault c.before_the_rows.result.prepares c.before_the_rows.result.steps c.before_the_rows.ensures.answer (omega (arith, c.before_the_rows.ensures.prepares)) c.before_the_rows.ensures.steps (inl (fails_same g.Args.ElementTuple.reads (g.F.RowSpec.reads c.args.self.options.now (logical_types c.args.self.types.now)) c.requires.elements.reads 0 c.args.self.columns.now c.in-Err.fault c.in-Err.ensures.errors))
 
 pub known_values-requires : goal.known_values-requires
 known_values-requires g c = subst (λ known. ReadsKnown g.Args.ElementTuple.reads 0 known) (sym c.in-Ok.ensures.known) (reads_known g.Args.ElementTuple.reads 0 c.args.self.columns.now c.in-Ok.ensures.read)
@@ -56,8 +57,8 @@ returns g c =
     let at = λ (i : ℕ) (h : i < n). row_reads (g.F.RowSpec.policy c.args.self.options.now (logical_types c.args.self.types.now)) T.DENSE_SAFE T.DECODE_INFALLIBLE T.reads T.shown law.shown_constant law.shown_row n columns i (T.shows decoded i) c.requires.policy (λ d. c.in-Ok.ensures.dense d i (there i h)) (c.in-Ok.ensures.same i (there i h)) c.in-Ok.ensures.read h c.requires.ready.runs in
     let full = λ (i : ℕ) (cells : List Cell) (h : full_cells columns i ≡ Some cells). sym (shown_same T.shown shown c.requires.elements.shown 0 columns i) ∙ shown_full T.shown g.met.Args.ElementTuple.shown_constant g.met.Args.ElementTuple.shown_row 0 columns i cells h in
     let ran_loop = c.execute_owned_infallible-answer in
-    ran ran_loop.result.0 n ran_loop.result.1 (g.F.RowSpec.meaning self.options.now types) g.F.Evidence.FailureEvidence.neutral (g.F.RowSpec.reads self.options.now types) shown (g.F.RowSpec.output self.options.now types).storage g.Out.OutputElement.element_type columns T.cells (T.shows decoded) g.Out.OutputElement.states
-    c.requires.output.storage same
+    ran ran_loop.result.0 n ran_loop.result.1 g.F.RowSpec.finish (g.F.RowSpec.meaning self.options.now types) g.F.Evidence.FailureEvidence.neutral (EvidenceFails (g.F.RowSpec.deferred self.options.now types) g.F.RowSpec.finish (joined g.F.Evidence.FailureEvidence.join g.F.Evidence.FailureEvidence.neutral (g.F.RowSpec.meaning self.options.now types) (full_cells columns) n)) (g.F.RowSpec.reads self.options.now types) shown (g.F.RowSpec.output self.options.now types).storage g.Out.OutputElement.element_type columns T.cells (T.shows decoded) g.Out.OutputElement.states
+    g.met.F.RowSpec.finish_laws.accepts_neutral c.requires.output.storage same
     (λ i h x y k p. c.requires.agrees known c.in-Ok-prepare.prepared _ x y c.known_values.ensures.read c.in-Ok-prepare.ensures refl
     (subst (λ cells. ReadsFrom T.reads 0 cells) (sym k) (at i h))
     (agrees_at (T.known known) (T.known_of decoded) (T.cells x) (T.shows decoded i) c.known_values.ensures.known k (g.met.Args.ElementTuple.known_agrees decoded i)) p)

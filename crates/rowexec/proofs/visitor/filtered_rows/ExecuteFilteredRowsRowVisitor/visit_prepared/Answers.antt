@@ -1,9 +1,11 @@
-use Rattle.std.proofs.Common.{◌∙◌, ◌<◌, ℕ, length, sym, ap, subst, refl, arith}
+use Rattle.std.proofs.Common.{◌∙◌, ◌<◌, ℕ, length, sym, ap, subst, refl, inl, arith}
 use Rattle.std.specs.Prelude.{count_by}
 use Rattle.colbase.specs.Keep.{trues}
 use Rattle.colbase.proofs.KeptRows.{trues-count_by}
 use Rattle.rowtypes.specs.Rows.{AgreesWith, ReadsFrom, ReadsKnown, decoded_lengths, each_length, logical_types}
 use Rattle.rowtypes.proofs.Lengths.{has_row}
+use Rattle.rowexec.specs.Evidence.{EvidenceFails, joined}
+use Rattle.rowexec.specs.Rows.{full_cells}
 use Rattle.rowexec.proofs.Batches.{as_many_types, each_decoded, fails_same}
 use Rattle.rowexec.proofs.FullRows.{shown_full}
 use Rattle.rowexec.proofs.Known.{agrees_at, reads_known}
@@ -15,7 +17,7 @@ pub decode-requires-clause-arity : goal.decode-requires-clause-arity
 decode-requires-clause-arity g c = sym (as_many_types c.args.self.columns.now) ∙ ap length (sym c.requires.ready.types_are) ∙ c.requires.elements.count ∙ sym c.requires.elements.arity
 
 pub returns-in-Err : goal.returns-in-Err
-returns-in-Err g c = failed_before _ _ _ c.before_the_rows.result.answer c.in-Err.fault c.before_the_rows.result.prepares c.before_the_rows.result.steps c.before_the_rows.ensures.answer (omega (arith, c.before_the_rows.ensures.prepares)) c.before_the_rows.ensures.steps (fails_same g.Args.ElementTuple.reads (g.F.RowSpec.reads c.args.self.options.now (logical_types c.args.self.types.now)) c.requires.elements.reads 0 c.args.self.columns.now c.in-Err.fault c.in-Err.ensures.errors)
+returns-in-Err g c = failed_before _ _ _ c.before_the_rows.result.answer c.in-Err.fault c.before_the_rows.result.prepares c.before_the_rows.result.steps c.before_the_rows.ensures.answer (omega (arith, c.before_the_rows.ensures.prepares)) c.before_the_rows.ensures.steps (inl (fails_same g.Args.ElementTuple.reads (g.F.RowSpec.reads c.args.self.options.now (logical_types c.args.self.types.now)) c.requires.elements.reads 0 c.args.self.columns.now c.in-Err.fault c.in-Err.ensures.errors))
 
 pub known_values-requires : goal.known_values-requires
 known_values-requires g c = subst (λ known. ReadsKnown g.Args.ElementTuple.reads 0 known) (sym c.in-Ok.ensures.known) (reads_known g.Args.ElementTuple.reads 0 c.args.self.columns.now c.in-Ok.ensures.read)
@@ -54,8 +56,8 @@ returns g c =
     let lengths = ap (each_length n) c.in-Ok.ensures.lengths ∙ each_decoded n columns c.requires.ready.rows in
     let same = λ (i : ℕ) (h : i < n). c.in-Ok.ensures.same i (has_row n (T.lengths decoded) lengths i h) in
     let ran_loop = c.execute_owned_infallible_filtered-answer in
-    ran_filtered ran_loop.result.0 marks ran_loop.result.1 (g.F.RowSpec.meaning self.options.now types) g.F.Evidence.FailureEvidence.neutral (g.F.RowSpec.reads self.options.now types) (g.F.RowSpec.output self.options.now types).storage g.Out.OutputElement.element_type columns T.cells (T.shows decoded) g.Out.OutputElement.states
-    c.requires.output.storage
+    ran_filtered ran_loop.result.0 marks ran_loop.result.1 g.F.RowSpec.finish (g.F.RowSpec.meaning self.options.now types) g.F.Evidence.FailureEvidence.neutral (EvidenceFails (g.F.RowSpec.deferred self.options.now types) g.F.RowSpec.finish (joined g.F.Evidence.FailureEvidence.join g.F.Evidence.FailureEvidence.neutral (g.F.RowSpec.meaning self.options.now types) (full_cells columns) n)) (g.F.RowSpec.reads self.options.now types) (g.F.RowSpec.output self.options.now types).storage g.Out.OutputElement.element_type columns T.cells (T.shows decoded) g.Out.OutputElement.states
+    g.met.F.RowSpec.finish_laws.accepts_neutral c.requires.output.storage
     (λ i cells h f. same i h ∙ shown_full T.shown law.shown_constant law.shown_row 0 columns i cells f)
     (λ i h x y k p. c.requires.agrees known c.in-Ok-prepare.prepared _ x y c.known_values.ensures.read c.in-Ok-prepare.ensures refl
     (full_row_reads T.reads T.shown law.shown_constant law.shown_row columns i (T.cells x) (k ∙ same i h) c.in-Ok.ensures.read (c.requires.ready.full i h))

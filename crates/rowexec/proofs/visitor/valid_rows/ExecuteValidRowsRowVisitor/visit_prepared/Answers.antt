@@ -1,9 +1,12 @@
-use Rattle.std.proofs.Common.{◌∙◌, ◌<◌, ℕ, length, sym, ap, subst, refl, arith}
+use Rattle.std.proofs.Common.{◌∙◌, ◌<◌, ℕ, length, sym, ap, subst, refl, inl, arith}
+use Rattle.std.specs.Prelude.{◌⊎◌}
 use Rattle.colbase.specs.Arrays.{Array}
 use Rattle.colbase.specs.Keep.{trues}
 use Rattle.colbase.specs.declared.fault.Fault.{Fault}
 use Rattle.rowtypes.specs.Rows.{AgreesWith, DecodeFails, ReadsFrom, ReadsKnown, each_length, logical_types}
 use Rattle.rowtypes.proofs.Lengths.{has_row}
+use Rattle.rowexec.specs.Evidence.{EvidenceFails, joined}
+use Rattle.rowexec.specs.Rows.{full_cells}
 use Rattle.rowexec.specs.Visits.{ValidColumn}
 use Rattle.rowexec.proofs.Batches.{as_many_types, each_decoded, fails_same}
 use Rattle.rowexec.proofs.FullRows.{shown_full}
@@ -18,7 +21,7 @@ pub decode_null_tolerant-requires-clause-arity : goal.decode_null_tolerant-requi
 decode_null_tolerant-requires-clause-arity g c = sym (as_many_types c.args.self.columns.now) ∙ ap length (sym c.requires.ready.types_are) ∙ c.requires.elements.count ∙ sym c.requires.elements.arity
 
 pub returns-in-Err : goal.returns-in-Err
-returns-in-Err g c = failed_or_declined _ _ _ c.before_the_rows-in-Err.result.answer c.in-Err.fault c.before_the_rows-in-Err.result.prepares c.before_the_rows-in-Err.result.steps c.before_the_rows-in-Err.ensures.answer (omega (arith, c.before_the_rows-in-Err.ensures.prepares)) c.before_the_rows-in-Err.ensures.steps (fails_same g.Args.ElementTuple.reads (g.F.RowSpec.reads c.args.self.options.now (logical_types c.args.self.types.now)) c.requires.elements.reads 0 c.args.self.columns.now c.in-Err.fault c.in-Err.ensures.errors)
+returns-in-Err g c = failed_or_declined _ _ _ c.before_the_rows-in-Err.result.answer c.in-Err.fault c.before_the_rows-in-Err.result.prepares c.before_the_rows-in-Err.result.steps c.before_the_rows-in-Err.ensures.answer (omega (arith, c.before_the_rows-in-Err.ensures.prepares)) c.before_the_rows-in-Err.ensures.steps (inl (fails_same g.Args.ElementTuple.reads (g.F.RowSpec.reads c.args.self.options.now (logical_types c.args.self.types.now)) c.requires.elements.reads 0 c.args.self.columns.now c.in-Err.fault c.in-Err.ensures.errors))
 
 pub known_values-requires : goal.known_values-requires
 known_values-requires g c =
@@ -62,16 +65,17 @@ returns g c =
     let known = c.known_values.result in
     let lengths = ap (each_length n) (of_some _ d.field-0 d.decoded d.field-0-is d.ensures.lengths) ∙ each_decoded n columns c.requires.ready.rows in
     let same = λ (i : ℕ) (h : i < n). of_some _ d.field-0 d.decoded d.field-0-is d.ensures.same i (has_row n (T.lengths d.decoded) lengths i h) in
+    let Judged : Fault → Type 0 = EvidenceFails (g.F.RowSpec.deferred self.options.now types) g.F.RowSpec.finish (joined g.F.Evidence.FailureEvidence.join neutral meaning (full_cells columns) n) in
     let ran_loop = c.execute_owned_infallible_valid_rows-answer in
-    let ran = ran_valid ran_loop.result.0 marks ran_loop.result.1 meaning neutral reads storage g.Out.OutputElement.element_type columns T.cells (T.shows d.decoded) g.Out.OutputElement.states
-    c.requires.output.storage c.requires.ready.full
+    let ran = ran_valid ran_loop.result.0 marks ran_loop.result.1 g.F.RowSpec.finish meaning neutral Judged reads storage g.Out.OutputElement.element_type columns T.cells (T.shows d.decoded) g.Out.OutputElement.states
+    g.met.F.RowSpec.finish_laws.accepts_neutral c.requires.output.storage c.requires.ready.full
     (λ i cells h f. same i h ∙ shown_full T.shown law.shown_constant law.shown_row 0 columns i cells f)
     (λ i h m x y k p. c.requires.agrees known c.in-Ok.prepared _ x y c.known_values.ensures.read c.in-Ok.ensures refl
     (full_row_reads T.reads T.shown law.shown_constant law.shown_row columns i (T.cells x) (k ∙ same i h) (of_some _ d.field-0 d.decoded d.field-0-is d.ensures.read) (full_at n i columns c.requires.ready.rows h (sym (c.requires.ready.full i h) ∙ m)))
     (agrees_at (T.known known) (T.known_of d.decoded) (T.cells x) (T.shows d.decoded i) c.known_values.ensures.known k (law.known_agrees d.decoded i)) p)
     ran_loop.ensures.dtype ran_loop.ensures.len ran_loop.ensures.rows ran_loop.ensures.errors ran_loop.ensures.most ran_loop.ensures.least in
-    let Gives : Array → Type 0 = ValidColumn meaning neutral storage columns n in
-    let Fails : Fault → Type 0 = DecodeFails reads 0 columns in
+    let Gives : Array → Type 0 = ValidColumn g.F.RowSpec.finish meaning storage columns n in
+    let Fails : Fault → Type 0 = λ e. DecodeFails reads 0 columns e ⊎ Judged e in
     elim c.match-answer.branch [
       | in-Ok-answer w ↦ undeclined (trues marks) Gives Fails ran_loop.result.0 c.match-answer.answer w.in-Ok-answer.values 1 ran_loop.result.1 w.in-Ok-answer.is w.answer-is ran
       | in-Err-answer w ↦ undeclined_failed (trues marks) Gives Fails ran_loop.result.0 c.match-answer.answer w.in-Err-answer.fault 1 ran_loop.result.1 w.in-Err-answer.is w.answer-is ran

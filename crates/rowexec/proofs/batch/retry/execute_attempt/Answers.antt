@@ -1,0 +1,20 @@
+use Rattle.std.proofs.Common.{◌∙◌, length, ap, sym}
+use Rattle.rowtypes.specs.Rows.{logical_types}
+use Rattle.rowexec.specs.Counts.{runs_valid_only}
+use Rattle.rowexec.proofs.Batches.{as_many_types, each_decoded}
+use Rattle.rowexec.proofs.StrictRows.{accepted_from, as_many}
+use Rattle.rowexec.proofs.batch.retry.execute_attempt.Goals as goal
+
+pub dispatch-requires-clause-arity : goal.dispatch-requires-clause-arity
+dispatch-requires-clause-arity g c = sym (as_many c.args.types.now) ∙ ap length c.requires.types ∙ as_many_types c.args.columns.now ∙ c.requires.arity
+
+pub dispatch-requires-clause-ready : goal.dispatch-requires-clause-ready
+dispatch-requires-clause-ready g c =
+    let columns = c.args.columns.now in
+    let types = logical_types c.args.types.now in
+    record {
+      types_are = c.requires.types;
+      accepted = accepted_from (g.F.RowSpec.fits c.args.options.now types) 0 columns (cc (c.requires.types, c.requires.planned.fit));
+      asked = each_decoded c.args.row_count columns c.requires.rows;
+      runs = ap runs_valid_only (ap (g.F.RowSpec.policy c.args.options.now) c.requires.types ∙ c.requires.policy);
+    }

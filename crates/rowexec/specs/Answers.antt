@@ -1,0 +1,31 @@
+-- What the loops with evidence leave at a row.
+use Rattle.std.specs.Prelude.{◌≡◌, ⊤, Option, Some, Result, Ok, Err}
+use Rattle.bitlane.specs.Maps.{MapsTo}
+use Rattle.colbase.specs.Arrays.{Array}
+use Rattle.colbase.specs.Cell.{Cell}
+use Rattle.colbase.specs.declared.fault.Fault.{Fault}
+use Rattle.colbase.specs.declared.fault.Fault.TheVariants.{Row}
+use Rattle.colbase.specs.declared.fault.RowError.{RowError}
+use Rattle.rowexec.specs.declared.execute.retry.DenseAttempt.{DenseAttempt}
+use Rattle.rowexec.specs.declared.execute.retry.DenseAttempt.TheVariants.{DeferredError, Values}
+
+-- the row is the cell of an answer's value, and the evidence is that of the same answer
+pub record StatesChecked {X T E : Type 0} (may_be : X → Type 0) (post : X → T × E → Type 0) (states : T → Cell) (row : Option Cell) (evidence : E) : Type 0 where
+  pub value : T
+  pub maps : MapsTo may_be post (value, evidence)
+  pub is : row ≡ Some (states value)
+
+-- the fault is the error that the evidence is judged
+pub record JudgedError (post : Result ⊤ RowError → Type 0) (e : Fault) : Type 0 where
+  pub error : RowError
+  pub judged : post (Err error)
+  pub is : e ≡ Row error
+
+-- the values where the evidence is accepted, and else the error that it is judged
+abbrev pub Judges : (Result ⊤ RowError → Type 0) → Array → Result Array Fault → Type 0
+Judges post values (Ok a) = post (Ok tt) × (a ≡ values)
+Judges post values (Err e) = JudgedError post e
+
+abbrev pub AttemptIs : (Result ⊤ RowError → Type 0) → Array → DenseAttempt → Type 0
+AttemptIs post values (Values a) = post (Ok tt) × (a ≡ values)
+AttemptIs post values (DeferredError error) = post (Err error)

@@ -1,0 +1,12 @@
+use Rattle.std.proofs.Common.{◌∙◌, refl, ap, length}
+use Rattle.rowrun.proofs.SameElements.{as_many, accepts_each, reads_each, shows_each}
+use Rattle.rowrun.proofs.functions.checked_add.CheckedAddRowFn.dispatch.Goals as goal
+
+pub visit_deferred-requires-clause-elements : goal.visit_deferred-requires-clause-elements
+visit_deferred-requires-clause-elements g c = record {
+  arity = refl;
+  count = ap length c.requires.types ∙ as_many c.args._types.now ∙ c.requires.arity;
+  fits = accepts_each;
+  reads = reads_each;
+  shown = shows_each;
+}
