@@ -1,5 +1,7 @@
 //! Times the proved loops of `crates/rowbench` beside the same loops in plain Rust, in one run, and prints their ratios.
 //! `bench/loops.sh` builds and runs it.
+mod checked;
+
 use std::borrow::Cow;
 use std::hint::black_box;
 use std::time::Instant;
@@ -355,6 +357,7 @@ fn main() {
         executions("execute_rows, prepared", rows, rounds, 4, plain);
         executions_of_full_rows("a tenth null", rows, rounds, 5, 1);
         executions_of_full_rows("nine tenths null", rows, rounds, 6, 9);
+        checked::calls(rows, rounds);
     }
     executions_of_constants(1 << 20, 8);
 }

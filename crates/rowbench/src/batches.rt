@@ -12,7 +12,7 @@ use rowexec::execute_rows;
 use std::alloc::Global;
 
 /// The numbers 0, 1 and so on.
-fn rising(rows: usize, validity: Validity, ctx: ExecutionCtx) -> Res<ArrayRef> {
+pub fn rising(rows: usize, validity: Validity, ctx: ExecutionCtx) -> Res<ArrayRef> {
     let mut values = Vec::from_elem(ctx.alloc(), 0i64, rows)?;
     for i in 0..values.len() {
         values[i] = i as i64;
@@ -21,7 +21,7 @@ fn rising(rows: usize, validity: Validity, ctx: ExecutionCtx) -> Res<ArrayRef> {
 }
 
 /// Null at every tenth row, beginning with the row at `first`.
-fn tenths(rows: usize, first: usize, ctx: ExecutionCtx) -> Res<Validity> {
+pub fn tenths(rows: usize, first: usize, ctx: ExecutionCtx) -> Res<Validity> {
     let bits = BitBuffer::collect_bool_in(ctx.alloc(), rows, |i| i % 10 != first)?;
     Ok(Validity::Array(bits))
 }
@@ -66,7 +66,7 @@ fn columns(rows: usize, shape: u8, ctx: ExecutionCtx) -> Res<ExecutionArgs> {
 }
 
 /// The number in a row, and 0 where it is null.
-fn number_at(array: &ArrayRef, row: usize) -> i64 {
+pub fn number_at(array: &ArrayRef, row: usize) -> i64 {
     if row >= array.len() || !array.is_valid(row) {
         return 0;
     }

@@ -6,6 +6,7 @@ ghost use Rattle.std.specs.Prelude.{◌≡◌, length};
 
 mod batches;
 mod bits;
+mod checked;
 mod pairs;
 mod sum;
 mod sum_prepared;
@@ -62,6 +63,22 @@ pub extern "C" fn rowbench_execute_rows(
     shape: u8,
 ) -> i64 {
     match batches::executed_in_rounds(alloc, rows, rounds, shape) {
+        Ok(total) => total,
+        Err(_) => 0,
+    }
+}
+
+/// As [`rowbench_execute_rows`], for functions whose failures are evidence. With shape 0 `checked_add` runs over two columns without nulls;
+/// with 1 every tenth row of the first is null, over small numbers, and with 2 over the greatest number, whose sum fails. With 3
+/// `rescale` runs over a column beside the constant scale 3.
+#[unsafe(no_mangle)]
+pub extern "C" fn rowbench_execute_checked(
+    alloc: Global,
+    rows: usize,
+    rounds: usize,
+    shape: u8,
+) -> i64 {
+    match checked::checked_in_rounds(alloc, rows, rounds, shape) {
         Ok(total) => total,
         Err(_) => 0,
     }
