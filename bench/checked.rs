@@ -4,6 +4,7 @@ use std::hint::black_box;
 
 unsafe extern "C" {
     fn rowbench_execute_checked(rows: usize, rounds: usize, shape: u8) -> i64;
+    fn rowbench_execute_truncate(rows: usize, rounds: usize) -> i64;
 }
 
 fn proved(rows: usize, rounds: usize, shape: u8) -> i64 {
@@ -69,6 +70,40 @@ fn plain_rescaled(rows: usize, rounds: usize) -> i64 {
     total(rows, rounds, |_| true, || plain_products(black_box(&xs), black_box(1000)))
 }
 
+/// The numbers down to the last multiple of the ticks in a new list, and whether some multiple is no `i64`.
+#[inline(never)]
+fn plain_steps(xs: &[i64], ticks: i64) -> (Vec<i64>, bool) {
+    let mut failed = false;
+    let steps = xs
+        .iter()
+        .map(|x| {
+            let (step, overflows) = x.overflowing_sub(x.rem_euclid(ticks));
+            failed |= overflows;
+            step
+        })
+        .collect();
+    (steps, failed)
+}
+
+fn plain_truncated(rows: usize, rounds: usize) -> i64 {
+    let xs: Vec<i64> = (0..rows as i64).collect();
+    total(rows, rounds, |_| true, || plain_steps(black_box(&xs), black_box(60)))
+}
+
+/// Timestamps in seconds that are truncated to minutes.
+fn truncated(rows: usize, rounds: usize) {
+    // SAFETY: the function asks nothing of its numbers.
+    let proved = |rounds| unsafe { rowbench_execute_truncate(rows, rounds) };
+    assert_eq!(proved(100.min(rows)), plain_truncated(rows, 100.min(rows)));
+    let times = least_of_rounds(
+        rows,
+        rounds,
+        |rounds| _ = black_box(proved(rounds)),
+        |rounds| _ = black_box(plain_truncated(rows, rounds)),
+    );
+    report("truncate to 60 ticks", rows, times);
+}
+
 fn against_plain<R: Fn(usize) -> i64>(name: &str, rows: usize, rounds: usize, shape: u8, plain: R) {
     assert_eq!(proved(rows, 16, shape), plain(16));
     let times = least_of_rounds(
@@ -97,5 +132,6 @@ pub fn calls(rows: usize, rounds: usize) {
     against_plain("checked_add", rows, rounds, 0, |rounds| plain_checked(rows, rounds, |_| true));
     against_plain("checked_add, nulls in one", rows, rounds, 1, |rounds| plain_checked(rows, rounds, tenths));
     against_plain("rescale, a constant scale", rows, rounds, 3, |rounds| plain_rescaled(rows, rounds));
+    truncated(rows, rounds);
     retried(rows, rounds);
 }

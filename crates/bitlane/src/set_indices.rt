@@ -7,29 +7,27 @@ use std::marker::Model;
 /// The indices of the true values of a bit buffer, in rising order. Contracts see it as the list of those left.
 #[derive(Drop)]
 pub struct SetIndices<'a> {
-    rest: &'a [bool],
+    bits: &'a [bool],
+    /// The first index that wasn't looked at.
     index: usize,
 }
 
 impl<'a> Model for SetIndices<'a> {
-    ghost use Rattle.std.specs.Prelude.{List, ℕ, ◌+◌, ◌≤◌, ◌^◌, ◌<◌, length};
+    ghost use Rattle.std.specs.Prelude.{List, ℕ, ◌≤◌, drop, length};
     ghost use Rattle.bitlane.specs.Bits.{true_indices_from};
 
     ghost Value = { List ℕ };
 
-    ghost view = { λ s. true_indices_from s.index s.rest.now };
+    ghost view = { λ s. true_indices_from s.index (drop s.index s.bits.now) };
 
-    ghost invariant = { λ s. s.index + length s.rest.now < 2 ^ 64 };
+    ghost invariant = { λ s. s.index ≤ length s.bits.now };
 }
 
 impl<'a> SetIndices<'a> {
     pub(crate) fn new(bits: &'a [bool]) -> SetIndices<'a>
         ensures { result ≡ true_indices bits.now }
     {
-        SetIndices {
-            rest: bits,
-            index: 0,
-        }
+        SetIndices { bits, index: 0 }
     }
 }
 
@@ -41,19 +39,17 @@ impl<'a> Iterator for SetIndices<'a> {
     ghost remaining = { item_count (λ s. s) };
 
     fn next(&mut self) -> Option<usize> {
-        let mut rest = self.rest;
+        let bits = self.bits;
         let mut index = self.index;
-        while let Some((bit, tail)) = rest.split_first() {
-            rest = tail;
-            if *bit {
-                self.rest = rest;
-                self.index = index + 1;
-                return Some(index);
-            }
+        while index < bits.len() {
+            let at = index;
             index += 1;
+            if bits[at] {
+                *self = SetIndices { bits, index };
+                return Some(at);
+            }
         }
-        self.rest = rest;
-        self.index = index;
+        *self = SetIndices { bits, index };
         None
     }
 }

@@ -2,12 +2,13 @@
 use crate::batches::{number_at, rising, tenths};
 use crate::tuples::two_columns;
 use colbase::{
-    ArrayRef, Buffer, ConstantArray, EmptyOptions, ExecutionArgs, ExecutionCtx, Nullability, PType,
-    PrimitiveArray, Res, Scalar, Validity,
+    ArrayRef, Buffer, ConstantArray, DType, EmptyOptions, ExecutionArgs, ExecutionCtx, ExtDType,
+    ExtensionArray, Nullability, PType, PrimitiveArray, Res, Scalar, TimeUnit, Validity,
 };
 use rowexec::execute_rows;
-use rowrun::{CheckedAdd, Rescale};
-use std::alloc::Global;
+use rowrun::{CheckedAdd, Rescale, Truncate, TruncateOptions};
+use rowtypes::{InputElement, TimestampRow};
+use std::alloc::{AllocError, Global};
 
 /// The numbers 0, 1 and so on, with the greatest number stored under a null at every tenth row.
 fn greatest_under_nulls(rows: usize, ctx: ExecutionCtx) -> Res<ArrayRef> {
@@ -52,6 +53,51 @@ pub fn checked_in_rounds(alloc: Global, rows: usize, rounds: usize, shape: u8) -
             _ => execute_rows(&Rescale, &EmptyOptions, &args, ctx)?,
         };
         total = total.wrapping_add(number_at(&answer, round));
+    }
+    Ok(total)
+}
+
+fn one_column(column: ArrayRef, alloc: Global) -> Result<Vec<ArrayRef>, AllocError> {
+    let mut columns = Vec::with_capacity(alloc, 1)?;
+    columns.push(column)?;
+    Ok(columns)
+}
+
+/// The seconds 0, 1 and so on, as timestamps.
+fn seconds(rows: usize, ctx: ExecutionCtx) -> Res<ExecutionArgs> {
+    let storage = DType::Primitive(PType::I64, Nullability::NonNullable);
+    let dtype = ExtDType::try_new(
+        "vortex.timestamp",
+        Some(TimeUnit::Seconds),
+        None,
+        storage,
+        ctx,
+    )?;
+    let times = ExtensionArray::try_new(dtype, rising(rows, Validity::NonNullable, ctx)?, ctx)?;
+    Ok(ExecutionArgs::new(one_column(times, ctx.alloc())?, rows))
+}
+
+/// The second in a row of timestamps, and 0 where there is none.
+fn second_at(times: &ArrayRef, row: usize, ctx: ExecutionCtx) -> Res<i64> {
+    if TimestampRow::validate(times.dtype()).is_err() {
+        return Ok(0);
+    }
+    let seconds = TimestampRow::decode(times, ctx)?;
+    Ok(match seconds.as_slice().get(row) {
+        Some(second) => *second,
+        None => 0,
+    })
+}
+
+/// As [`checked_in_rounds`], for timestamps that are truncated to minutes.
+pub fn truncated_in_rounds(alloc: Global, rows: usize, rounds: usize) -> Res<i64> {
+    let ctx = ExecutionCtx::new(alloc);
+    let args = seconds(rows, ctx)?;
+    let minutes = TruncateOptions { ticks: 60 };
+    let mut total = 0i64;
+    for round in 0..rounds {
+        let answer = execute_rows(&Truncate, &minutes, &args, ctx)?;
+        total = total.wrapping_add(second_at(&answer, round, ctx)?);
     }
     Ok(total)
 }

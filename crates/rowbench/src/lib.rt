@@ -83,3 +83,12 @@ pub extern "C" fn rowbench_execute_checked(
         Err(_) => 0,
     }
 }
+
+/// As [`rowbench_execute_checked`], for `truncate` over a column of seconds without nulls, to steps of 60.
+#[unsafe(no_mangle)]
+pub extern "C" fn rowbench_execute_truncate(alloc: Global, rows: usize, rounds: usize) -> i64 {
+    match checked::truncated_in_rounds(alloc, rows, rounds) {
+        Ok(total) => total,
+        Err(_) => 0,
+    }
+}
