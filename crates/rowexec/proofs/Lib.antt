@@ -1,4 +1,5 @@
 pub mod AllNull
+pub mod Appended
 pub mod Batches
 pub mod Casting
 pub mod CheckedRows
@@ -21,7 +22,6 @@ pub mod Retrying
 pub mod Selected
 pub mod SelectedRuns
 pub mod Selecting
-pub mod SetBits
 pub mod SetPlaces
 pub mod StrictRows
 pub mod Tables

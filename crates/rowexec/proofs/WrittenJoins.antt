@@ -24,21 +24,6 @@ joined_each join neutral selected IsAt n total (skip {n = m} {total = before} j 
       | inr ne ↦ joined_each join neutral selected IsAt m before j k (omega arith) s
     ]
 
--- past k indices that aren't selected
-skip_by : {V : Type 0} (join : V → V → V) (neutral : V) (selected : ℕ → Bool) (IsAt : ℕ → V → Type 0) (n k : ℕ) (total : V)
-    → ((i : ℕ) → n ≤ i → i < n + k → selected i ≡ false) → Joined join neutral selected IsAt n total → Joined join neutral selected IsAt (n + k) total
-skip_by join neutral selected IsAt n zero total h j = Joined-at join neutral selected IsAt n (n + 0) total (omega arith) j
-skip_by join neutral selected IsAt n (suc k) total h j =
-    Joined-at join neutral selected IsAt (suc (n + k)) (n + suc k) total (omega arith)
-    (skip (skip_by join neutral selected IsAt n k total (λ i from to. h i from (omega arith)) j) (h (n + k) (omega arith) (omega arith)))
-
--- past indices that aren't selected
-pub skip_to : {V : Type 0} (join : V → V → V) (neutral : V) (selected : ℕ → Bool) (IsAt : ℕ → V → Type 0) (n m : ℕ) (total : V)
-    → n ≤ m → ((i : ℕ) → n ≤ i → i < m → selected i ≡ false) → Joined join neutral selected IsAt n total → Joined join neutral selected IsAt m total
-skip_to join neutral selected IsAt n m total le h j =
-    let on : n + (m - n) ≡ m = omega arith in
-    Joined-at join neutral selected IsAt (n + (m - n)) m total on (skip_by join neutral selected IsAt n (m - n) total (λ i from to. h i from (omega arith)) j)
-
 -- one step of a loop that writes the value of an answer to item n at the place of n, which is i, and joins its evidence
 pub joined_write : {X T E : Type 0} (item_at : ℕ → X → Type 0) (post : X → T × E → Type 0) (join : E → E → E) (neutral : E) (selected : ℕ → Bool) (place : ℕ → ℕ)
     (out : List T) (n i : ℕ) (total : E) → i < length out → place n ≡ i → ((k : ℕ) → k < n → place k ≢ i) → selected n ≡ true

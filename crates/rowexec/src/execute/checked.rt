@@ -1,13 +1,14 @@
 // Loops whose callback gives a value and evidence.
-ghost use Rattle.std.specs.Prelude.{◌≡◌, ◌<◌, ◌≤◌, ℕ, true, IfOk, IfErr};
-ghost use Rattle.bitlane.specs.Maps.{Joined};
+ghost use Rattle.std.specs.Prelude.{◌≡◌, ◌<◌, ◌≤◌, ℕ, length, slice_index_or, true, IfOk, IfErr};
+ghost use Rattle.bitlane.specs.Maps.{Joined, MapsTo};
 ghost use Rattle.colbase.specs.Arrays.{dtype, len, row};
 ghost use Rattle.rowtypes.specs.Rows.{each_length};
 ghost use Rattle.rowexec.specs.Answers.{StatesChecked};
 
-use bitlane::{FailureEvidence, IndexedSource, map_checked_into};
+use bitlane::{FailureEvidence, IndexedSource};
 use colbase::{ArrayRef, ExecutionCtx, Fault, Res};
-use rowtypes::{ElementTuple, IndexedElementTuple, OutputBuffer, OutputElement, RowsVisitor};
+use rowtypes::{ElementTuple, IndexedElementTuple, OutputElement, RowsVisitor};
+use std::alloc::{AllocError, Global};
 use std::marker::PhantomData;
 
 /// The values of the answers of a callback to all rows, as a column without nulls, the evidence that is joined over them,
@@ -106,22 +107,44 @@ fn build_checked<
     ensures most { result.1 ≤ S.count source.now }
     ensures least { IfOk result.0 (λ _. S.count source.now ≤ result.1) }
 {
-    let rows = source.len();
-    // The places are taken before the first call.
-    let mut buffer = match Out::with_capacity(rows, ctx) {
-        Ok(buffer) => buffer,
-        Err(fault) => return (Err(fault), 0),
-    };
-    let evidence = map_checked_into(
+    let collected = map_checked_collect(
         source,
-        buffer.slots(),
         |item: S::Item| -> (Out, V)
             requires { A.pre apply prepared item }
             ensures { A.post apply prepared.entry item result }
         { apply(prepared, item) },
+        ctx.alloc(),
     );
-    match buffer.finish(rows, ctx) {
-        Ok(values) => (Ok((values, evidence)), rows as u128),
-        Err(fault) => (Err(fault), rows as u128),
+    let rows = source.len() as u128;
+    match collected {
+        Ok((values, evidence)) => match Out::column_of(values, ctx) {
+            Ok(column) => (Ok((column, evidence)), rows),
+            Err(fault) => (Err(fault), rows),
+        },
+        // The room is taken before the first call.
+        Err(refused) => (Err(Fault::from(refused)), 0),
     }
+}
+
+/// The values of the answers of `apply` to the items, in order, in a new list, and the join of all evidence, beginning with the
+/// default. The list's room is taken before the first call, and each place is written once.
+fn map_checked_collect<S: IndexedSource, T: Drop, V: FailureEvidence, F: Fn(S::Item) -> (T, V)>(
+    source: &S,
+    apply: F,
+    alloc: Global,
+) -> Result<(Vec<T>, V), AllocError>
+    requires callable { (i : ℕ) (x : S.Item) → i < S.count source.now → S.item_at source.now i x → F.pre apply x }
+    ensures len { IfOk result (λ r. length r.0.items ≡ S.count source.now) }
+    // The value at an index and the evidence that is joined for it are of one answer.
+    ensures joined { IfOk result (λ r. Joined V.join V.neutral (λ _. true) (λ i v. (d : T) → MapsTo (S.item_at source.now i) (F.post apply) (slice_index_or r.0.items i d, v)) (S.count source.now) r.1) }
+{
+    let rows = source.len();
+    let mut values = Vec::with_capacity(alloc, rows)?;
+    let mut evidence = V::default();
+    for i in 0..rows {
+        let (value, failure) = apply(source.get(i));
+        values.push_reserved(value);
+        evidence |= failure;
+    }
+    Ok((values, evidence))
 }

@@ -9,7 +9,8 @@ ghost use Rattle.rowexec.specs.Answers.{StatesChecked};
 
 use bitlane::{BitBuffer, FailureEvidence, IndexedSource, NoFailure};
 use colbase::{ArrayRef, ExecutionCtx, Fault, Res};
-use rowtypes::{ElementTuple, IndexedElementTuple, OutputBuffer, OutputElement, RowsVisitor};
+use rowtypes::{ElementTuple, IndexedElementTuple, OutputElement, RowsVisitor};
+use std::alloc::{AllocError, Global};
 use std::marker::PhantomData;
 
 /// The answers of a callback that doesn't fail to the rows that are valid, each at its own row, as a column without nulls
@@ -165,49 +166,54 @@ fn build_valid_rows<
     ensures most { result.1 ≤ count_by (λ b. b) valid.now }
     ensures least { IfOk result.0 (λ _. count_by (λ b. b) valid.now ≤ result.1) }
 {
-    let rows = valid.len();
-    // The places are taken before the first call.
-    let mut buffer = match Out::with_capacity(rows, ctx) {
-        Ok(buffer) => buffer,
-        Err(fault) => return (Err(fault), 0),
-    };
-    let (evidence, calls) = map_checked_valid_into(
+    let collected = map_checked_valid_collect(
         source,
         valid,
-        buffer.slots(),
         |item: S::Item| -> (Out, V)
             requires { A.pre apply prepared item }
             ensures { A.post apply prepared.entry item result }
         { apply(prepared, item) },
+        ctx.alloc(),
     );
-    match buffer.finish(rows, ctx) {
-        Ok(values) => (Ok((values, evidence)), calls as u128),
-        Err(fault) => (Err(fault), calls as u128),
+    match collected {
+        Ok((values, evidence, calls)) => match Out::column_of(values, ctx) {
+            Ok(column) => (Ok((column, evidence)), calls as u128),
+            Err(fault) => (Err(fault), calls as u128),
+        },
+        // The room is taken before the first call.
+        Err(refused) => (Err(Fault::from(refused)), 0),
     }
 }
 
-/// Writes the value of the answer of `apply` to each item at a true bit at the item's index, leaves the other places as they
-/// are, and answers the join of the evidence, beginning with the default, and how often `apply` was called.
-fn map_checked_valid_into<S: IndexedSource, T: Drop, V: FailureEvidence, F: Fn(S::Item) -> (T, V)>(
-    source: &S,
-    valid: &BitBuffer,
-    out: &mut [T],
-    apply: F,
-) -> (V, usize)
+/// The values of the answers of `apply` to the items at the true bits, each at its item's index among defaults, in a new list;
+/// the join of their evidence, beginning with the default; and how often `apply` was called. The list's room is taken before
+/// the first call, and each place is written once.
+fn map_checked_valid_collect<
+    S: IndexedSource,
+    T: Default + Drop,
+    V: FailureEvidence,
+    F: Fn(S::Item) -> (T, V),
+>(source: &S, valid: &BitBuffer, apply: F, alloc: Global) -> Result<(Vec<T>, V, usize), AllocError>
     requires items { S.count source.now ≡ length valid.now }
-    requires places { length out.old ≡ length valid.now }
     requires callable { (i : ℕ) (x : S.Item) → i < length valid.now → bit valid.now i ≡ true → S.item_at source.now i x → F.pre apply x }
+    ensures len { IfOk result (λ r. length r.0.items ≡ length valid.now) }
     // The value at an index and the evidence that is joined for it are of one answer.
-    ensures joined { Joined V.join V.neutral (bit valid.now) (λ i v. (d : T) → MapsTo (S.item_at source.now i) (F.post apply) (slice_index_or out.new i d, v)) (length valid.now) result.0 }
-    ensures calls { result.1 ≡ count_by (λ b. b) valid.now }
+    ensures joined { IfOk result (λ r. Joined V.join V.neutral (bit valid.now) (λ i v. (d : T) → MapsTo (S.item_at source.now i) (F.post apply) (slice_index_or r.0.items i d, v)) (length valid.now) r.1) }
+    ensures calls { IfOk result (λ r. r.2 ≡ count_by (λ b. b) valid.now) }
 {
+    let rows = valid.len();
+    let mut values = Vec::with_capacity(alloc, rows)?;
     let mut evidence = V::default();
     let mut calls = 0;
-    for index in valid.set_indices() {
-        let (value, failure) = apply(source.get(index));
-        out[index] = value;
-        evidence |= failure;
-        calls += 1;
+    for i in 0..rows {
+        if valid.value(i) {
+            let (value, failure) = apply(source.get(i));
+            values.push_reserved(value);
+            evidence |= failure;
+            calls += 1;
+        } else {
+            values.push_reserved(T::default());
+        }
     }
-    (evidence, calls)
+    Ok((values, evidence, calls))
 }
