@@ -13,6 +13,7 @@ pub mod Lines
 pub mod Names
 pub mod Nested
 pub mod OnLiterals
+pub mod Powers
 pub mod Printed
 pub mod Ranges
 pub mod SameElements

@@ -6,6 +6,7 @@ pub mod Faults
 pub mod Functions
 pub mod Generator
 pub mod Objects
+pub mod Powers
 pub mod Reading
 pub mod Results
 pub mod Scalars

@@ -2,6 +2,7 @@ ghost use Rattle.std.specs.Prelude.{◌≡◌, ◌⊎◌, ◌≤◌, ◌^◌, �
 ghost use Rattle.colbase.specs.Cell.{number};
 ghost use Rattle.rowplan.specs.Outcomes.{done};
 ghost use Rattle.rowrun.specs.Functions.{wrapped};
+ghost use Rattle.rowrun.specs.Powers.{power_of, HasBounds};
 
 use super::evidence::judge;
 use colbase::{DType, EmptyOptions, ExecutionCtx, Fault, Res};
@@ -87,7 +88,6 @@ impl RowFn for Rescale {
         Err(Fault::NotSerializable)
     }
 
-    #[tactic(auto, using(crate::proofs::Evidence::checked_product))]
     fn dispatch<V: RowVisitor<Rescale>>(
         &self,
         _options: &EmptyOptions,
@@ -95,19 +95,27 @@ impl RowFn for Rescale {
         visitor: V,
         _ctx: ExecutionCtx,
     ) -> Res<V::VisitResult> {
-        visitor.visit_prepared_deferred::<(i64, DecimalScale), i64, Option<i64>, _, _, _>(
-            |known: (Option<i64>, Option<u8>)| -> Result<Option<i64>, AllocError>
+        visitor.visit_prepared_deferred::<(i64, DecimalScale), i64, Option<Power>, _, _, _>(
+            |known: (Option<i64>, Option<u8>)| -> Result<Option<Power>, AllocError>
                 requires { MatchOption known.1 (Unit {0}) (λ n. n ≤ 18) }
-                ensures { result ≡ Ok (option_map (λ n. pos (10 ^ n)) known.1) }
+                ensures { result ≡ Ok (option_map power_of known.1) }
             { Ok(known_power(known.1)) },
-            |power: &Option<i64>, row: (i64, u8)| -> (i64, bool)
+            |power: &Option<Power>, row: (i64, u8)| -> (i64, bool)
                 requires within { row.1 ≤ 18 }
-                requires same { MatchOption power.now (Unit {0}) (λ p. p ≡ pos (10 ^ row.1)) }
+                requires same { MatchOption power.now (Unit {0}) (λ p. p ≡ power_of row.1) }
                 ensures { wrapped (row.0 *ℤ pos (10 ^ row.1)) ≡ done (number result.0) result.1 }
-            { row.0.overflowing_mul(power_or(*power, row.1)) },
+            { rescaled(*power, row.0, row.1) },
             judge,
         )
     }
+}
+
+/// A power of 10, with the least and the greatest number whose product with it is an `i64`.
+#[derive(Clone, Copy)]
+struct Power {
+    factor: i64,
+    least: i64,
+    most: i64,
 }
 
 const POWERS_OF_TEN: [i64; 19] = [
@@ -140,25 +148,52 @@ fn power_of_ten(scale: u8) -> i64
     POWERS_OF_TEN[scale as usize]
 }
 
+/// 10 to the power of a scale, with its bounds, which take two divisions.
+fn bounded_power(scale: u8) -> Power
+    requires { scale ≤ 18 }
+    ensures { result ≡ power_of scale }
+{
+    let factor = power_of_ten(scale);
+    Power {
+        factor,
+        least: i64::MIN / factor,
+        most: i64::MAX / factor,
+    }
+}
+
 /// The power of a scale that is one value for all rows.
-fn known_power(scale: Option<u8>) -> Option<i64>
+fn known_power(scale: Option<u8>) -> Option<Power>
     requires { MatchOption scale (Unit {0}) (λ n. n ≤ 18) }
-    ensures { result ≡ option_map (λ n. pos (10 ^ n)) scale }
+    ensures { result ≡ option_map power_of scale }
 {
     match scale {
-        Some(scale) => Some(power_of_ten(scale)),
+        Some(scale) => Some(bounded_power(scale)),
         None => None,
     }
 }
 
-/// The power that is known, and else that of the row's scale.
-fn power_or(known: Option<i64>, scale: u8) -> i64
+/// A number times the power that is known, and else times that of the row's scale, modulo 2^64, and whether the product is no
+/// `i64`.
+#[tactic(auto, using(crate::proofs::Evidence::checked_product))]
+fn rescaled(power: Option<Power>, value: i64, scale: u8) -> (i64, bool)
     requires within { scale ≤ 18 }
-    requires same { MatchOption known (Unit {0}) (λ p. p ≡ pos (10 ^ scale)) }
-    ensures { result ≡ pos (10 ^ scale) }
+    requires same { MatchOption power (Unit {0}) (λ p. p ≡ power_of scale) }
+    ensures { wrapped (value *ℤ pos (10 ^ scale)) ≡ done (number result.0) result.1 }
 {
-    match known {
-        Some(power) => power,
-        None => power_of_ten(scale),
+    match power {
+        Some(power) => scaled(value, power),
+        None => value.overflowing_mul(power_of_ten(scale)),
     }
+}
+
+/// A number times a power of 10, modulo 2^64, and whether the product is no `i64`. The two comparisons stand in for a product of
+/// 128 bits, and `|` for a branch, so that a loop over many numbers can be a vector loop.
+fn scaled(value: i64, power: Power) -> (i64, bool)
+    requires { HasBounds power }
+    ensures { wrapped (value *ℤ power.factor) ≡ done (number result.0) result.1 }
+{
+    (
+        value.wrapping_mul(power.factor),
+        (value < power.least) | (value > power.most),
+    )
 }
