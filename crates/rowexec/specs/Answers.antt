@@ -1,4 +1,5 @@
 -- What the loops with evidence leave at a row.
+use Rattle.std.specs.Borrow.{Bor}
 use Rattle.std.specs.Prelude.{◌≡◌, ⊤, Option, Some, Result, Ok, Err}
 use Rattle.bitlane.specs.Maps.{MapsTo}
 use Rattle.colbase.specs.Arrays.{Array}
@@ -14,6 +15,10 @@ pub record StatesChecked {X T E : Type 0} (may_be : X → Type 0) (post : X → 
   pub value : T
   pub maps : MapsTo may_be post (value, evidence)
   pub is : row ≡ Some (states value)
+
+-- an answer of a callback that was lent a value
+abbrev pub AnswersLent : {P X R : Type 0} → (Bor P → X → R → Type 0) → P → X → R → Type 0
+AnswersLent {P} post value x r = (q : Bor P) × (q.now ≡ value) × post q x r
 
 -- the fault is the error that the evidence is judged
 pub record JudgedError (post : Result ⊤ RowError → Type 0) (e : Fault) : Type 0 where

@@ -1,9 +1,10 @@
 // Loops whose callback gives a value and evidence.
 ghost use Rattle.std.specs.Prelude.{◌≡◌, ◌<◌, ◌≤◌, ℕ, length, slice_index_or, true, IfOk, IfErr};
+ghost use Rattle.std.specs.Borrow.{Bor};
 ghost use Rattle.bitlane.specs.Maps.{Joined, MapsTo};
 ghost use Rattle.colbase.specs.Arrays.{dtype, len, row};
 ghost use Rattle.rowtypes.specs.Rows.{each_length};
-ghost use Rattle.rowexec.specs.Answers.{StatesChecked};
+ghost use Rattle.rowexec.specs.Answers.{AnswersLent, StatesChecked};
 
 use bitlane::{FailureEvidence, IndexedSource};
 use colbase::{ArrayRef, ExecutionCtx, Fault, Res};
@@ -12,8 +13,8 @@ use std::alloc::{AllocError, Global};
 use std::marker::PhantomData;
 
 /// The values of the answers of a callback to all rows, as a column without nulls, the evidence that is joined over them,
-/// and how often the callback was called. The callback is lent the prepared value. Whether an argument is one value or a
-/// column is told before the loop.
+/// and how often the callback was called. The callback is lent the prepared value. It is owned here, so that the built code needn't
+/// read it anew for each row. Whether an argument is one value or a column is told before the loop.
 pub(crate) fn execute_owned<
     Args: IndexedElementTuple,
     Out: OutputElement,
@@ -23,15 +24,15 @@ pub(crate) fn execute_owned<
 >(
     columns: &Args::Columns,
     row_count: usize,
-    prepared: &P,
+    prepared: P,
     apply: A,
     ctx: ExecutionCtx,
 ) -> (Res<(ArrayRef, V)>, u128)
     requires lengths { each_length row_count (Args.lengths columns.now) ≡ true }
-    requires callable { (i : ℕ) (e : Args.Elems) → i < row_count → Args.cells e ≡ Args.shows columns.now i → A.pre apply prepared e }
+    requires callable { (i : ℕ) (e : Args.Elems) (q : Bor P) → i < row_count → Args.cells e ≡ Args.shows columns.now i → q.now ≡ prepared → A.pre apply q e }
     ensures dtype { IfOk result.0 (λ r. dtype r.0 ≡ Out.element_type) }
     ensures len { IfOk result.0 (λ r. len r.0 ≡ row_count) }
-    ensures rows { IfOk result.0 (λ r. Joined V.join V.neutral (λ _. true) (λ i v. StatesChecked (λ e. Args.cells e ≡ Args.shows columns.now i) (λ e a. A.post apply prepared.entry e a) Out.states (row r.0 i) v) row_count r.1) }
+    ensures rows { IfOk result.0 (λ r. Joined V.join V.neutral (λ _. true) (λ i v. StatesChecked (λ e. Args.cells e ≡ Args.shows columns.now i) (AnswersLent (A.post apply) prepared) Out.states (row r.0 i) v) row_count r.1) }
     ensures errors { IfErr result.0 (λ e. e ≡ Fault.Memory) }
     ensures most { result.1 ≤ row_count }
     ensures least { IfOk result.0 (λ _. row_count ≤ result.1) }
@@ -52,7 +53,7 @@ pub(crate) fn execute_owned<
 struct BuildChecked<'a, Args: ElementTuple, Out, V, P, A> {
     columns: &'a Args::Columns,
     row_count: usize,
-    prepared: &'a P,
+    prepared: P,
     apply: A,
     output: PhantomData<(Out, V)>,
     ctx: ExecutionCtx,
@@ -67,10 +68,11 @@ impl<
     A: Fn(&P, Args::Elems) -> (Out, V),
 > RowsVisitor<Args> for BuildChecked<'a, Args, Out, V, P, A> {
     ghost use Rattle.std.specs.Prelude.{◌≡◌, ◌<◌, ◌≤◌, ℕ, true, IfOk, IfErr};
+    ghost use Rattle.std.specs.Borrow.{Bor};
     ghost use Rattle.bitlane.specs.Maps.{Joined};
     ghost use Rattle.colbase.specs.Arrays.{dtype, len, row};
     ghost use Rattle.colbase.specs.declared.fault.Fault.TheVariants.{Memory};
-    ghost use Rattle.rowexec.specs.Answers.{StatesChecked};
+    ghost use Rattle.rowexec.specs.Answers.{AnswersLent, StatesChecked};
 
     type Output = (Res<(ArrayRef, V)>, u128);
 
@@ -78,9 +80,9 @@ impl<
 
     ghost may_be = { λ s i e. Args.cells e ≡ Args.shows s.columns.now i };
 
-    ghost ready = { λ s. (i : ℕ) (e : Args.Elems) → i < s.row_count → Args.cells e ≡ Args.shows s.columns.now i → A.pre s.apply s.prepared e };
+    ghost ready = { λ s. (i : ℕ) (e : Args.Elems) (q : Bor P) → i < s.row_count → Args.cells e ≡ Args.shows s.columns.now i → q.now ≡ s.prepared → A.pre s.apply q e };
 
-    ghost gives = { λ s r. IfOk r.0 (λ a. dtype a.0 ≡ Out.element_type) × IfOk r.0 (λ a. len a.0 ≡ s.row_count) × IfOk r.0 (λ a. Joined V.join V.neutral (λ _. true) (λ i v. StatesChecked (λ e. Args.cells e ≡ Args.shows s.columns.now i) (λ e b. A.post s.apply s.prepared e b) Out.states (row a.0 i) v) s.row_count a.1) × IfErr r.0 (λ e. e ≡ Memory) × (r.1 ≤ s.row_count) × IfOk r.0 (λ _. s.row_count ≤ r.1) };
+    ghost gives = { λ s r. IfOk r.0 (λ a. dtype a.0 ≡ Out.element_type) × IfOk r.0 (λ a. len a.0 ≡ s.row_count) × IfOk r.0 (λ a. Joined V.join V.neutral (λ _. true) (λ i v. StatesChecked (λ e. Args.cells e ≡ Args.shows s.columns.now i) (AnswersLent (A.post s.apply) s.prepared) Out.states (row a.0 i) v) s.row_count a.1) × IfErr r.0 (λ e. e ≡ Memory) × (r.1 ≤ s.row_count) × IfOk r.0 (λ _. s.row_count ≤ r.1) };
 
     fn visit<S: IndexedSource<Item = Args::Elems> + Drop>(
         self,
@@ -98,11 +100,11 @@ fn build_checked<
     P: Drop,
     S: IndexedSource,
     A: Fn(&P, S::Item) -> (Out, V),
->(source: &S, prepared: &P, apply: A, ctx: ExecutionCtx) -> (Res<(ArrayRef, V)>, u128)
-    requires callable { (i : ℕ) (x : S.Item) → i < S.count source.now → S.item_at source.now i x → A.pre apply prepared x }
+>(source: &S, prepared: P, apply: A, ctx: ExecutionCtx) -> (Res<(ArrayRef, V)>, u128)
+    requires callable { (i : ℕ) (x : S.Item) (q : Bor P) → i < S.count source.now → S.item_at source.now i x → q.now ≡ prepared → A.pre apply q x }
     ensures dtype { IfOk result.0 (λ r. dtype r.0 ≡ Out.element_type) }
     ensures len { IfOk result.0 (λ r. len r.0 ≡ S.count source.now) }
-    ensures rows { IfOk result.0 (λ r. Joined V.join V.neutral (λ _. true) (λ i v. StatesChecked (S.item_at source.now i) (λ x a. A.post apply prepared.entry x a) Out.states (row r.0 i) v) (S.count source.now) r.1) }
+    ensures rows { IfOk result.0 (λ r. Joined V.join V.neutral (λ _. true) (λ i v. StatesChecked (S.item_at source.now i) (AnswersLent (A.post apply) prepared) Out.states (row r.0 i) v) (S.count source.now) r.1) }
     ensures errors { IfErr result.0 (λ e. e ≡ Fault.Memory) }
     ensures most { result.1 ≤ S.count source.now }
     ensures least { IfOk result.0 (λ _. S.count source.now ≤ result.1) }
@@ -110,9 +112,9 @@ fn build_checked<
     let collected = map_checked_collect(
         source,
         |item: S::Item| -> (Out, V)
-            requires { A.pre apply prepared item }
-            ensures { A.post apply prepared.entry item result }
-        { apply(prepared, item) },
+            requires { (q : Bor P) → q.now ≡ prepared → A.pre apply q item }
+            ensures { AnswersLent (A.post apply) prepared item result }
+        { apply(&prepared, item) },
         ctx.alloc(),
     );
     let rows = source.len() as u128;

@@ -129,7 +129,7 @@ impl<'a, F: RowSpec> RowVisitor<F> for ExecuteRows<'a, F> {
         let (answer, steps) = execute_owned::<Args, Out, F::Evidence, P, A>(
             &decoded,
             self.row_count,
-            &prepared,
+            prepared,
             apply,
             self.ctx,
         );

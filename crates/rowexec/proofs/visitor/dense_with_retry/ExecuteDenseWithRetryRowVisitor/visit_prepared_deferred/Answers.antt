@@ -30,7 +30,7 @@ pub known_values-requires : goal.known_values-requires
 known_values-requires g c = subst (λ known. ReadsKnown g.Args.ElementTuple.reads 0 known) (sym c.in-Ok.ensures.known) (reads_known g.Args.ElementTuple.reads 0 c.args.self.columns.now c.in-Ok.ensures.read)
 
 pub execute_owned-answer-requires-clause-callable : goal.execute_owned-answer-requires-clause-callable
-execute_owned-answer-requires-clause-callable g c = λ i e h k.
+execute_owned-answer-requires-clause-callable g c = λ i e q h k lent.
     let T = g.Args.ElementTuple in
     let law = g.met.Args.ElementTuple in
     let n = c.args.self.row_count in
@@ -40,7 +40,7 @@ execute_owned-answer-requires-clause-callable g c = λ i e h k.
     let safe = retry_safe (g.F.RowSpec.policy c.args.self.options.now (logical_types c.args.self.types.now)) T.DENSE_SAFE T.DECODE_INFALLIBLE c.requires.ready.runs c.requires.policy in
     let read : ReadsFrom T.reads 0 (T.cells e) = subst (λ cells. ReadsFrom T.reads 0 cells) (sym k) (c.in-Ok.ensures.dense safe i there) in
     let agree : AgreesWith (T.known known) (T.cells e) = agrees_at (T.known known) (T.known_of decoded) (T.cells e) (T.shows decoded i) c.known_values.ensures.known k (law.known_agrees decoded i) in
-    c.requires.callable known c.in-Ok-prepare.prepared _ e c.known_values.ensures.read c.in-Ok-prepare.ensures refl read agree
+    c.requires.callable known c.in-Ok-prepare.prepared q e c.known_values.ensures.read c.in-Ok-prepare.ensures lent read agree
 
 pub judged-requires : goal.judged-requires
 judged-requires g c =
@@ -64,9 +64,9 @@ judged-requires g c =
     let rows = joined_rows V.in_range V.join V.neutral g.F.RowSpec.finish meaning T.cells (T.shows decoded) g.Out.OutputElement.states (shown_cells shown columns) (row c.in-Ok-answer.values) (λ (i : ℕ). true) n c.in-Ok-answer.evidence
     V.laws g.met.F.RowSpec.finish_laws (g.met.F.RowSpec.evidence_in_range self.options.now types) (λ i h. refl)
     (λ i of h e. same i h ∙ shown_same T.shown shown c.requires.elements.shown 0 columns i ∙ shown_are shown columns i of e)
-    (λ i h s x r k p. c.requires.agrees known c.in-Ok-prepare.prepared _ x r c.known_values.ensures.read c.in-Ok-prepare.ensures refl
+    (λ i h s x r k p. c.requires.agrees known c.in-Ok-prepare.prepared p.0 x r c.known_values.ensures.read c.in-Ok-prepare.ensures p.1
     (subst (λ cells. ReadsFrom T.reads 0 cells) (sym k) (c.in-Ok.ensures.dense safe i (there i h)))
-    (agrees_at (T.known known) (T.known_of decoded) (T.cells x) (T.shows decoded i) c.known_values.ensures.known k (law.known_agrees decoded i)) p)
+    (agrees_at (T.known known) (T.known_of decoded) (T.cells x) (T.shows decoded i) c.known_values.ensures.known k (law.known_agrees decoded i)) p.2)
     (of_ok _ run.result.0 (c.in-Ok-answer.values, c.in-Ok-answer.evidence) c.in-Ok-answer.is run.ensures.rows) in
     c.requires.judges c.in-Ok-answer.evidence rows.ranged
 
@@ -100,9 +100,9 @@ returns g c =
           let rows = joined_rows V.in_range V.join V.neutral g.F.RowSpec.finish meaning T.cells (T.shows decoded) g.Out.OutputElement.states (shown_cells shown columns) (row ok.values) (λ (i : ℕ). true) n ok.evidence
           V.laws g.met.F.RowSpec.finish_laws (g.met.F.RowSpec.evidence_in_range self.options.now types) (λ i h. refl)
           (λ i of h e. same i h ∙ shown_same T.shown shown c.requires.elements.shown 0 columns i ∙ shown_are shown columns i of e)
-          (λ i h s x r k p. c.requires.agrees known c.in-Ok-prepare.prepared _ x r c.known_values.ensures.read c.in-Ok-prepare.ensures refl
+          (λ i h s x r k p. c.requires.agrees known c.in-Ok-prepare.prepared p.0 x r c.known_values.ensures.read c.in-Ok-prepare.ensures p.1
           (subst (λ cells. ReadsFrom T.reads 0 cells) (sym k) (c.in-Ok.ensures.dense safe i (there i h)))
-          (agrees_at (T.known known) (T.known_of decoded) (T.cells x) (T.shows decoded i) c.known_values.ensures.known k (law.known_agrees decoded i)) p)
+          (agrees_at (T.known known) (T.known_of decoded) (T.cells x) (T.shows decoded i) c.known_values.ensures.known k (law.known_agrees decoded i)) p.2)
           (of_ok _ run.result.0 (ok.values, ok.evidence) ok.is run.ensures.rows) in
           let column = shown_rows_column V.in_range V.join V.neutral g.F.RowSpec.finish meaning shown storage g.Out.OutputElement.element_type columns n ok.evidence ok.values c.requires.output.storage (of_ok _ run.result.0 (ok.values, ok.evidence) ok.is run.ensures.dtype) (of_ok _ run.result.0 (ok.values, ok.evidence) ok.is run.ensures.len) full rows in
           ran_attempt _ deferred g.F.RowSpec.finish V.join V.neutral meaning shown storage columns n run.result.1 Fails ok.evidence ok.values w.judged.result c.match-answer.answer w.answer-is c.requires.deferred rows.is (λ r p. c.requires.finishes ok.evidence r rows.ranged p) full column w.judged.ensures run.ensures.most (of_ok _ run.result.0 (ok.values, ok.evidence) ok.is run.ensures.least)

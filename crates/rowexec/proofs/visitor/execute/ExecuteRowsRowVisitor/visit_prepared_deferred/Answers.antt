@@ -29,7 +29,7 @@ pub known_values-requires : goal.known_values-requires
 known_values-requires g c = subst (λ known. ReadsKnown g.Args.ElementTuple.reads 0 known) (sym c.in-Ok.ensures.known) (reads_known g.Args.ElementTuple.reads 0 c.args.self.columns.now c.in-Ok.ensures.read)
 
 pub execute_owned-answer-requires-clause-callable : goal.execute_owned-answer-requires-clause-callable
-execute_owned-answer-requires-clause-callable g c = λ i e h k.
+execute_owned-answer-requires-clause-callable g c = λ i e q h k lent.
     let T = g.Args.ElementTuple in
     let law = g.met.Args.ElementTuple in
     let n = c.args.self.row_count in
@@ -40,7 +40,7 @@ execute_owned-answer-requires-clause-callable g c = λ i e h k.
     let full = deferred_runs (g.F.RowSpec.policy c.args.self.options.now (logical_types c.args.self.types.now)) T.DENSE_SAFE T.DECODE_INFALLIBLE n columns c.requires.policy c.requires.ready.runs i h in
     let read : ReadsFrom T.reads 0 (T.cells e) = full_row_reads T.reads T.shown law.shown_constant law.shown_row columns i (T.cells e) (k ∙ c.in-Ok.ensures.same i there) c.in-Ok.ensures.read full in
     let agree : AgreesWith (T.known known) (T.cells e) = agrees_at (T.known known) (T.known_of decoded) (T.cells e) (T.shows decoded i) c.known_values.ensures.known k (law.known_agrees decoded i) in
-    c.requires.callable known c.in-Ok-prepare.prepared _ e c.known_values.ensures.read c.in-Ok-prepare.ensures refl read agree
+    c.requires.callable known c.in-Ok-prepare.prepared q e c.known_values.ensures.read c.in-Ok-prepare.ensures lent read agree
 
 pub accepted_values-answer-requires : goal.accepted_values-answer-requires
 accepted_values-answer-requires g c =
@@ -64,9 +64,9 @@ accepted_values-answer-requires g c =
     let rows = joined_rows V.in_range V.join V.neutral g.F.RowSpec.finish meaning T.cells (T.shows decoded) g.Out.OutputElement.states (full_cells columns) (row c.in-Ok-answer.values) (λ (i : ℕ). true) n c.in-Ok-answer.evidence
     V.laws g.met.F.RowSpec.finish_laws (g.met.F.RowSpec.evidence_in_range self.options.now types) (full_selected columns n full_at)
     (λ i of h e. same i h ∙ shown_full T.shown law.shown_constant law.shown_row 0 columns i of e)
-    (λ i h s x r k p. c.requires.agrees known c.in-Ok-prepare.prepared _ x r c.known_values.ensures.read c.in-Ok-prepare.ensures refl
+    (λ i h s x r k p. c.requires.agrees known c.in-Ok-prepare.prepared p.0 x r c.known_values.ensures.read c.in-Ok-prepare.ensures p.1
     (full_row_reads T.reads T.shown law.shown_constant law.shown_row columns i (T.cells x) (k ∙ same i h) c.in-Ok.ensures.read (full_at i h))
-    (agrees_at (T.known known) (T.known_of decoded) (T.cells x) (T.shows decoded i) c.known_values.ensures.known k (law.known_agrees decoded i)) p)
+    (agrees_at (T.known known) (T.known_of decoded) (T.cells x) (T.shows decoded i) c.known_values.ensures.known k (law.known_agrees decoded i)) p.2)
     (of_ok _ run.result.0 (c.in-Ok-answer.values, c.in-Ok-answer.evidence) c.in-Ok-answer.is run.ensures.rows) in
     c.requires.judges c.in-Ok-answer.evidence rows.ranged
 
@@ -102,9 +102,9 @@ returns g c =
           let rows = joined_rows V.in_range V.join V.neutral g.F.RowSpec.finish meaning T.cells (T.shows decoded) g.Out.OutputElement.states (full_cells columns) (row ok.values) (λ (i : ℕ). true) n ok.evidence
           V.laws g.met.F.RowSpec.finish_laws (g.met.F.RowSpec.evidence_in_range self.options.now types) (full_selected columns n full_at)
           (λ i of h e. same i h ∙ shown_full T.shown law.shown_constant law.shown_row 0 columns i of e)
-          (λ i h s x r k p. c.requires.agrees known c.in-Ok-prepare.prepared _ x r c.known_values.ensures.read c.in-Ok-prepare.ensures refl
+          (λ i h s x r k p. c.requires.agrees known c.in-Ok-prepare.prepared p.0 x r c.known_values.ensures.read c.in-Ok-prepare.ensures p.1
           (full_row_reads T.reads T.shown law.shown_constant law.shown_row columns i (T.cells x) (k ∙ same i h) c.in-Ok.ensures.read (full_at i h))
-          (agrees_at (T.known known) (T.known_of decoded) (T.cells x) (T.shows decoded i) c.known_values.ensures.known k (law.known_agrees decoded i)) p)
+          (agrees_at (T.known known) (T.known_of decoded) (T.cells x) (T.shows decoded i) c.known_values.ensures.known k (law.known_agrees decoded i)) p.2)
           (of_ok _ run.result.0 (ok.values, ok.evidence) ok.is run.ensures.rows) in
           let column = full_rows_column V.in_range V.join V.neutral g.F.RowSpec.finish meaning shown storage g.Out.OutputElement.element_type columns n ok.evidence ok.values c.requires.output.storage (of_ok _ run.result.0 (ok.values, ok.evidence) ok.is run.ensures.dtype) (of_ok _ run.result.0 (ok.values, ok.evidence) ok.is run.ensures.len) full (full_selected columns n full_at) rows in
           subst (λ (r : Result Array Fault). RanRows n Gives Fails r 1 run.result.1) (sym w.answer-is) (ran_judged _ n run.result.1 Gives Decodes deferred g.F.RowSpec.finish ok.evidence evidence ok.values w.accepted_values-answer.result c.requires.deferred rows.is (λ r p. c.requires.finishes ok.evidence r rows.ranged p) column w.accepted_values-answer.ensures run.ensures.most (of_ok _ run.result.0 (ok.values, ok.evidence) ok.is run.ensures.least))
