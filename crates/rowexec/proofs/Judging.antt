@@ -1,14 +1,14 @@
 -- What a visit answers once its joined evidence is judged.
-use Rattle.std.proofs.Common.{◌≡◌, ◌∙◌, ℕ, ◌<◌, Bool, true, List, length, Option, None, Some, inr, inl, refl, sym, subst, ap, arith}
-use Rattle.std.specs.Prelude.{◌⊎◌, ◌≤◌, ⊤, Result, Ok, Err, IfOk, IfErr, count_by}
+use Rattle.std.proofs.Common.{◌≡◌, ◌∙◌, ℕ, Bool, true, List, Option, None, Some, inr, refl, sym, subst, ap, arith}
+use Rattle.std.specs.Prelude.{◌⊎◌, ◌≤◌, ⊤, Result, Ok, Err, IfOk, IfErr}
 use Rattle.colbase.specs.Arrays.{Array}
 use Rattle.colbase.specs.Cell.{Cell}
 use Rattle.colbase.specs.LogicalType.{LogicalType}
 use Rattle.colbase.specs.declared.fault.Fault.{Fault}
-use Rattle.colbase.specs.declared.fault.Fault.TheVariants.{Memory, Row}
+use Rattle.colbase.specs.declared.fault.Fault.TheVariants.{Row}
 use Rattle.colbase.specs.declared.fault.RowError.{RowError}
 use Rattle.rowplan.specs.Outcomes.{Outcome, judged}
-use Rattle.rowexec.specs.Answers.{AttemptIs, JudgedError, Judges}
+use Rattle.rowexec.specs.Answers.{AttemptIs, Judges}
 use Rattle.rowexec.specs.Evidence.{EvidenceFails, joined, shown_cells}
 use Rattle.rowexec.specs.Visits.{Attempted, DenseColumn, RanRows, ShowsFull}
 use Rattle.rowexec.specs.declared.execute.retry.DenseAttempt.{DenseAttempt}

@@ -1,7 +1,7 @@
 -- Which rows of a batch run, and how many.
-use Rattle.std.proofs.Common.{◌≡◌, ◌∙◌, ℕ, zero, suc, ◌<◌, ◌≤◌, ◌||◌, ◌&&◌, ◌==◌, Bool, true, false, List, [], ◌∷◌, length, Option, None, Some, Result, Ok, Err, inl, inr, refl, ap, sym, subst, arith}
+use Rattle.std.proofs.Common.{◌≡◌, ◌∙◌, ℕ, zero, suc, ◌<◌, ◌≤◌, ◌&&◌, ◌==◌, Bool, true, false, List, [], ◌∷◌, length, Option, None, Some, inl, inr, refl, ap, sym, subst, arith}
 use Rattle.std.proofs.lemmas.Bool.Decides.{nat_tests}
-use Rattle.std.specs.Prelude.{IfOk, IsSome, MatchResult, is_some, nat_lt}
+use Rattle.std.specs.Prelude.{IsSome, is_some, nat_lt}
 use Rattle.bitlane.specs.Bits.{bit, tabulate}
 use Rattle.colbase.specs.Arrays.{Array, len, row}
 use Rattle.colbase.specs.Cell.{Cell}
@@ -9,7 +9,6 @@ use Rattle.colbase.specs.Keep.{trues}
 use Rattle.colbase.specs.LogicalType.{LogicalType}
 use Rattle.colbase.specs.Parts.{own_validity}
 use Rattle.colbase.specs.Valid.{validity_kind}
-use Rattle.colbase.specs.declared.fault.Fault.{Fault}
 use Rattle.rowtypes.specs.Shown.{batch_value}
 use Rattle.rowplan.specs.Outcomes.{Outcome}
 use Rattle.rowplan.specs.declared.batch_plan.RowPolicy.{RowPolicy}
@@ -18,7 +17,7 @@ use Rattle.rowexec.specs.Counts.{each_one_value, full_bits, is_no_nulls, is_one_
 use Rattle.rowexec.specs.Rows.{EachHasRows, full_cells, some_all_null}
 use Rattle.rowexec.specs.Selections.{Selected}
 use Rattle.rowexec.specs.declared.batch.selection.Selection.{Selection}
-use Rattle.rowexec.specs.Visits.{DenseColumn, FullAt, MayRunAll, RanRows, ValidColumn}
+use Rattle.rowexec.specs.Visits.{DenseColumn, FullAt, MayRunAll, ValidColumn}
 use Rattle.rowexec.proofs.FullRows.{picked}
 use Rattle.rowexec.proofs.OneRow.{both_parts, value_of, value_row}
 

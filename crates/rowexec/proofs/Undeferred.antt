@@ -1,6 +1,6 @@
 -- A run of all rows of a function without evidence is one whose evidence is accepted.
 use Rattle.std.proofs.Common.{◌≡◌, ◌∙◌, ℕ, zero, suc, Bool, true, false, List, Option, None, Some, ap, inl, inr, refl, sym}
-use Rattle.std.specs.Prelude.{◌⊎◌, MatchResult, Result, Ok, Err, IfOk, ◌≤◌}
+use Rattle.std.specs.Prelude.{◌⊎◌, MatchResult, Result, Ok, Err}
 use Rattle.bitlane.specs.Evidence.{JoinLaws}
 use Rattle.colbase.specs.Arrays.{Array}
 use Rattle.colbase.specs.Cell.{Cell}

@@ -1,8 +1,8 @@
 -- Joins of the evidence of answers whose values are written.
-use Rattle.std.proofs.Common.{◌≡◌, ℕ, zero, suc, ◌+◌, ◌-◌, ◌<◌, ◌≤◌, ◌≢◌, Bool, true, false, List, length, get_or, slice_set, subst, sym, add-one, arith, inl, inr, get_or-set_same, get_or-set_other}
+use Rattle.std.proofs.Common.{◌≡◌, ℕ, suc, ◌+◌, ◌-◌, ◌<◌, ◌≢◌, Bool, true, List, length, get_or, slice_set, subst, sym, add-one, arith, inl, inr, get_or-set_same, get_or-set_other}
 use Rattle.std.proofs.lemmas.Bool.{cases_eq}
 use Rattle.bitlane.specs.Maps.{Joined, none, more, skip, MapsTo}
-use Rattle.bitlane.proofs.Joins.{Joined-at, Joined-map}
+use Rattle.bitlane.proofs.Joins.{Joined-map}
 
 -- some evidence is at an index
 pub record HasEvidence {V : Type 0} (IsAt : V → Type 0) : Type 0 where

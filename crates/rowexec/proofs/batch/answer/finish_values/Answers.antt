@@ -1,11 +1,9 @@
 use Rattle.std.proofs.Common.{◌≡◌, ◌∙◌, ◌<◌, ℕ, Option, Some, ap, sym, subst}
-use Rattle.std.specs.Prelude.{is_some}
 use Rattle.colbase.specs.Arrays.{dtype, len, row, rows}
 use Rattle.colbase.specs.LogicalType.{LogicalType, nullability_of, with_nullability}
 use Rattle.colbase.specs.LogicalTypeOf.{logical_type}
 use Rattle.colbase.specs.Valid.{valid_at}
 use Rattle.colbase.specs.declared.dtype.Nullability.TheVariants.{NonNullable}
-use Rattle.rowtypes.specs.Rows.{shown_from}
 use Rattle.rowplan.specs.Outputs.{InOrder, any_nullable, made_nullable}
 use Rattle.rowplan.specs.Plans.{plan_of}
 use Rattle.rowexec.specs.Batch.{StatedAs}

@@ -1,11 +1,11 @@
-use Rattle.std.proofs.Common.{◌≡◌, ◌∙◌, ◌≤◌, ℕ, List, arith, refl, sym, subst, Ok, None}
+use Rattle.std.proofs.Common.{◌∙◌, ◌≤◌, ℕ, List, arith, sym, subst, Ok, None}
 use Rattle.colbase.specs.Arrays.{Array}
 use Rattle.rowexec.specs.Counts.{dense_accepted, steps_asked}
 use Rattle.rowexec.specs.Rows.{EachHasRows, full_cells, types_of}
 use Rattle.rowexec.specs.declared.batch.selection.Selection.TheVariants as s
 use Rattle.rowexec.proofs.Batches.{each_decoded}
 use Rattle.rowexec.proofs.Retrying.{after_answered, if_answered}
-use Rattle.rowexec.proofs.Selected.{most_once, no_cells, no_steps, selected_at, steps_of_all, steps_of_marks, steps_of_one, steps_of_policy, unsettled_all, unsettled_attempt, unsettled_marks, unsettled_one}
+use Rattle.rowexec.proofs.Selected.{most_once, no_cells, no_steps, selected_at, steps_of_all, steps_of_marks, steps_of_one, unsettled_all, unsettled_marks, unsettled_one}
 use Rattle.rowexec.proofs.SelectedRuns.{dense_of_call, if_failed, ran_of_call, some_answered, some_least}
 use Rattle.rowexec.proofs.batch.counted.execute_selected.Goals as goal
 

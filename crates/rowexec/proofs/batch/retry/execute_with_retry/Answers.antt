@@ -1,4 +1,4 @@
-use Rattle.std.proofs.Common.{◌≡◌, ◌∙◌, ◌≤◌, ℕ, arith, inl, subst, sym}
+use Rattle.std.proofs.Common.{◌≤◌, arith, inl, sym}
 use Rattle.std.specs.Prelude.{is_some}
 use Rattle.colbase.specs.Keep.{trues}
 use Rattle.colbase.specs.declared.fault.Fault.{Fault}

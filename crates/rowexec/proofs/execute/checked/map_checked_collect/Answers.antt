@@ -1,4 +1,4 @@
-use Rattle.std.proofs.Common.{rules, ◌≡◌, ◌∙◌, ◌+◌, ◌++◌, ◌∷◌, [], List, get_or, length, ap, arith, refl, subst, sym, true}
+use Rattle.std.proofs.Common.{rules, ◌∙◌, ◌+◌, ◌∷◌, [], List, get_or, length, ap, arith, refl, subst, sym, true}
 use Rattle.std.proofs.lemmas.List.{length-append}
 use Rattle.bitlane.specs.Maps.{Joined, MapsTo}
 use Rattle.bitlane.proofs.Joins.{Joined-at, Joined-none}

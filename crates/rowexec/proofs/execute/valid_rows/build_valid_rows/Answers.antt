@@ -1,4 +1,4 @@
-use Rattle.std.proofs.Common.{◌≡◌, ◌∙◌, ℕ, ◌<◌, length, get_or, Some, ap, subst, sym}
+use Rattle.std.proofs.Common.{◌∙◌, ◌<◌, length, get_or, Some, ap, subst, sym}
 use Rattle.colbase.specs.Arrays.{row}
 use Rattle.rowtypes.proofs.Columns.{full-len, full-row}
 use Rattle.bitlane.specs.Bits.{bit}

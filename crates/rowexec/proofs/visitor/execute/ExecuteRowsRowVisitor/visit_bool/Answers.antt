@@ -1,4 +1,4 @@
-use Rattle.std.proofs.Common.{◌≡◌, ◌∙◌, ◌<◌, ℕ, List, length, sym, ap, subst, refl, inl, arith}
+use Rattle.std.proofs.Common.{◌≡◌, ◌∙◌, ◌<◌, ℕ, List, length, sym, ap, subst, inl, arith}
 use Rattle.std.specs.Prelude.{Some}
 use Rattle.colbase.specs.Cell.{Cell, truth}
 use Rattle.colbase.specs.LogicalType.{bool as bool_type}

@@ -1,4 +1,4 @@
-use Rattle.std.proofs.Common.{◌≡◌, ◌∙◌, ◌<◌, ℕ, Bool, true, List, length, sym, ap, subst, refl, inl, inr, arith}
+use Rattle.std.proofs.Common.{◌≡◌, ◌∙◌, ◌<◌, ℕ, true, List, length, sym, ap, subst, inl, arith}
 use Rattle.std.specs.Prelude.{◌⊎◌, Some, Result}
 use Rattle.colbase.specs.Arrays.{Array, row}
 use Rattle.colbase.specs.Cell.{Cell}
@@ -8,7 +8,7 @@ use Rattle.rowtypes.proofs.Lengths.{has_row}
 use Rattle.rowexec.specs.Evidence.{EvidenceFails, joined}
 use Rattle.rowexec.specs.Rows.{full_cells}
 use Rattle.rowexec.specs.Visits.{DenseColumn, RanRows}
-use Rattle.rowexec.proofs.Batches.{accepts_same, as_many_types, fails_same, shown_same}
+use Rattle.rowexec.proofs.Batches.{as_many_types, fails_same, shown_same}
 use Rattle.rowexec.proofs.FullRows.{shown_full}
 use Rattle.rowexec.proofs.JoinedColumns.{full_rows_column}
 use Rattle.rowexec.proofs.Joining.{joined_rows}

@@ -1,4 +1,4 @@
-use Rattle.std.proofs.Common.{◌≡◌, ◌∙◌, ◌<◌, ℕ, Bool, true, List, length, sym, ap, subst, refl, inl, arith}
+use Rattle.std.proofs.Common.{◌∙◌, ◌<◌, ℕ, true, length, sym, ap, subst, refl, inl, arith}
 use Rattle.std.specs.Prelude.{◌⊎◌, ◌≤◌, Result, count_by}
 use Rattle.bitlane.proofs.Joins.{Joined-at}
 use Rattle.colbase.specs.Arrays.{Array, row}

@@ -1,4 +1,4 @@
-use Rattle.std.proofs.Common.{◌≡◌, ◌∙◌, ◌<◌, ℕ, Bool, List, length, sym, ap, subst, refl, inl, arith}
+use Rattle.std.proofs.Common.{◌∙◌, ◌<◌, ℕ, length, sym, ap, subst, refl, inl, arith}
 use Rattle.std.specs.Prelude.{◌⊎◌, ◌≤◌, Result}
 use Rattle.bitlane.specs.Bits.{bit}
 use Rattle.colbase.specs.Arrays.{Array, row}
