@@ -1,10 +1,10 @@
 // Parts, rows and masks of columns.
 use super::filter::{shows, three, truths};
-use crate::{
+use bitlane::BitBuffer;
+use colbase::{
     ArrayRef, Buffer, DType, ExecutionCtx, Mask, NativeInt, Nullability, PType, PrimitiveArray,
     Scalar, ScalarValue, Validity,
 };
-use bitlane::BitBuffer;
 use std::test::Fail;
 
 fn part(array: &ArrayRef, start: usize, end: usize, ctx: ExecutionCtx) -> Result<ArrayRef, Fail> {

@@ -1,6 +1,6 @@
 // What a top call means to write, and the writing of it.
 ghost use Rattle.std.specs.Prelude.{◌≡◌, ◌≤◌};
-ghost use Rattle.rowtext.specs.Plans.{answer_status, answer_text, plan_status, plan_text};
+ghost use Rattle.rowtext.specs.Replies.{answer_status, answer_text, reply_status, reply_text};
 ghost use Rattle.rowtext.specs.Changes.{change};
 ghost use Rattle.rowtext.specs.Outcomes.{Wrote};
 
@@ -47,7 +47,7 @@ impl Answer {
 
 /// What a top call means to write.
 #[derive(Drop)]
-pub enum Plan {
+pub enum Reply {
     /// The call doesn't know the words.
     Usage,
     /// The source failed before its end.
@@ -58,39 +58,39 @@ pub enum Plan {
     Answered(Answer),
 }
 
-impl Plan {
+impl Reply {
     /// The status with which the program ends, where the whole text is written.
     pub fn status(&self) -> u8
-        ensures { result ≡ plan_status self.now }
+        ensures { result ≡ reply_status self.now }
     {
         match self {
-            Plan::Usage => 1,
-            Plan::Unread => 5,
-            Plan::Long => 7,
-            Plan::Answered(answer) => answer.status(),
+            Reply::Usage => 1,
+            Reply::Unread => 5,
+            Reply::Long => 7,
+            Reply::Answered(answer) => answer.status(),
         }
     }
 
     /// The bytes to write.
     pub fn text(&self) -> &[u8]
-        ensures { result.now ≡ plan_text self.now }
+        ensures { result.now ≡ reply_text self.now }
     {
         match self {
-            Plan::Usage => b"usage\n",
-            Plan::Unread => b"read\n",
-            Plan::Long => b"long\n",
-            Plan::Answered(answer) => answer.text(),
+            Reply::Usage => b"usage\n",
+            Reply::Unread => b"read\n",
+            Reply::Long => b"long\n",
+            Reply::Answered(answer) => answer.text(),
         }
     }
 }
 
-/// Writes a plan's text and gives its status, or 6 where the sink fails. It takes no memory.
-pub fn write_plan<K: Sink>(sink: &mut K, plan: &Plan) -> u8
-    ensures wrote { Wrote plan.now result (change K.held K.faults sink.old sink.new) }
+/// Writes a reply's text and gives its status, or 6 where the sink fails. It takes no memory.
+pub fn write_reply<K: Sink>(sink: &mut K, reply: &Reply) -> u8
+    ensures wrote { Wrote reply.now result (change K.held K.faults sink.old sink.new) }
     ensures no_lower { K.faults sink.old ≤ K.faults sink.new }
 {
-    match write_whole(sink, plan.text()) {
-        Ok(()) => plan.status(),
+    match write_whole(sink, reply.text()) {
+        Ok(()) => reply.status(),
         Err(_) => 6,
     }
 }

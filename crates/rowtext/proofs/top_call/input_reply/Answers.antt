@@ -1,6 +1,6 @@
 use Rattle.std.proofs.Common.{ap, Err, rules, arith}
 use Rattle.rowtext.specs.Causes.{unread, long, of_input}
-use Rattle.rowtext.proofs.top_call.input_plan.Goals as goal
+use Rattle.rowtext.proofs.top_call.input_reply.Goals as goal
 
 pub returns-in-Err-Failed-clause-cause : goal.returns-in-Err-Failed-clause-cause
 returns-in-Err-Failed-clause-cause g c =

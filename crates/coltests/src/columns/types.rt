@@ -1,5 +1,5 @@
 // Worked values of types.
-use crate::{DType, EmptyOptions, ExecutionCtx, ExtDType, Nullability, PType, Res, TimeUnit};
+use colbase::{DType, EmptyOptions, ExecutionCtx, ExtDType, Nullability, PType, Res, TimeUnit};
 use std::test::Fail;
 
 fn seconds(nullability: Nullability, ctx: ExecutionCtx) -> Res<ExtDType> {

@@ -1,7 +1,7 @@
 // Recursive types over the crate's owners, and what tests alone show: that values are read after owners are dropped.
 ghost use Rattle.std.specs.Prelude.{◌≡◌};
 
-use crate::{Items, Shared, SharedSlice, at};
+use shared::{Items, Shared, SharedSlice, at};
 
 /// A value tree, which reaches itself through a shared list of optional children.
 #[derive(Drop)]

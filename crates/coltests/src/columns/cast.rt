@@ -1,6 +1,6 @@
 // Worked casts.
 use super::bits;
-use crate::{
+use colbase::{
     ArrayRef, Buffer, ConstantArray, DType, ExecutionCtx, ExtDType, ExtensionArray, Fault,
     MaskedArray, Nullability, PType, PrimitiveArray, Scalar, ScalarValue, Validity,
 };

@@ -1,6 +1,6 @@
 ghost use Rattle.std.specs.Prelude.{◌≡◌, length, slice_index_or, Some};
 
-use crate::{
+use bitlane::{
     BitBuffer, FailureEvidence, IndexedSource, NoFailure, map_checked_into, map_collect, map_into,
 };
 use std::test::Fail;

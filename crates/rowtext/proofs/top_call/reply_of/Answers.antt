@@ -1,6 +1,6 @@
 use Rattle.std.proofs.Common.{refl, sym}
 use Rattle.rowtext.specs.Causes.{usage, of_words}
-use Rattle.rowtext.proofs.top_call.plan_of.Goals as goal
+use Rattle.rowtext.proofs.top_call.reply_of.Goals as goal
 
 pub returns-in-Unknown-clause-cause : goal.returns-in-Unknown-clause-cause
 returns-in-Unknown-clause-cause g c = usage (sym c.in-Unknown.ensures) refl

@@ -1,16 +1,16 @@
 // Worked values. The contracts say the rest.
-use crate::{
+use bitlane::BitBuffer;
+use colbase::{
     Buffer, DType, ExecutionArgs, ExecutionCtx, Fault, LayoutFault, Name, NativeInt, Nullability,
     PType, PrimitiveArray, Scalar, ScalarValue, Validity, ValidityKind,
 };
-use bitlane::BitBuffer;
 use std::alloc::Global;
 use std::test::Fail;
 
 mod cast;
-mod columns;
 mod constructors;
 mod filter;
+mod parts;
 mod scalars;
 mod types;
 

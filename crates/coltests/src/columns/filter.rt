@@ -1,9 +1,9 @@
 // Rows that masks of each form select.
-use crate::{
+use bitlane::BitBuffer;
+use colbase::{
     ArrayRef, BoolArray, Buffer, ConstantArray, DType, ExecutionCtx, ExtDType, ExtensionArray,
     Mask, MaskedArray, Nullability, PType, PrimitiveArray, Scalar, ScalarValue, Validity,
 };
-use bitlane::BitBuffer;
 use std::alloc::Global;
 use std::test::Fail;
 

@@ -3,7 +3,7 @@ ghost use Rattle.std.specs.Prelude.{◌≡◌, IfOk, length};
 ghost use Rattle.coltypes.specs.LogicalType.{primitive};
 ghost use Rattle.coltypes.specs.Scalars.{AllOfType};
 
-use crate::{ConstantArray, DType, ExecutionCtx, Nullability, PType, Res, Scalar};
+use colbase::{ConstantArray, DType, ExecutionCtx, Nullability, PType, Res, Scalar};
 use std::alloc::{AllocError, Global};
 use std::hash::{DefaultHasher, Hash, Hasher};
 use std::test::Fail;

@@ -1,7 +1,7 @@
 use Rattle.std.proofs.Common.{refl, subst, List, ℕ}
 use Rattle.rowtext.specs.Bytes.{IsProperPrefix}
 use Rattle.rowtext.specs.Outcomes.{cut}
-use Rattle.rowtext.proofs.plan.write_plan.Goals as goal
+use Rattle.rowtext.proofs.reply.write_reply.Goals as goal
 
 pub returns-in-Err-clause-wrote : goal.returns-in-Err-clause-wrote
 returns-in-Err-clause-wrote g c =

@@ -1,10 +1,10 @@
 // What the constructors build and refuse.
 use super::{bits, holds_number};
-use crate::{
+use bitlane::BitBuffer;
+use colbase::{
     BoolArray, Buffer, ConstantArray, DType, ExecutionCtx, ExtDType, ExtensionArray, Fault,
     LayoutFault, MaskedArray, Nullability, PType, PrimitiveArray, Scalar, TimeUnit, Validity,
 };
-use bitlane::BitBuffer;
 use std::test::Fail;
 
 #[test]
