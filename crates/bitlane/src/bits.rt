@@ -1,3 +1,4 @@
+// Bit buffers: validity, masks and truth values. Contracts speak of the list, whatever holds it.
 ghost use Rattle.std.specs.Prelude.{◌≡◌, ◌≤◌, ◌<◌, length, IfOk, slice_range, map, not, count_by, replicate, true, false};
 ghost use Rattle.bitlane.specs.Bits.{bit, both, CallableFrom, Collects, true_indices};
 

@@ -1,3 +1,4 @@
+// New memory that is written once: the answers of a closure at each index.
 ghost use Rattle.std.specs.Prelude.{◌≡◌, length, IfOk};
 ghost use Rattle.bitlane.specs.Bits.{CallableFrom, Collects};
 

@@ -1,3 +1,4 @@
+// Evidence of failures as a value that is joined row by row, so that a loop has no early exit.
 ghost use Rattle.std.specs.Prelude.{◌≡◌, ◌||◌, ◌<◌, ⊤, false, bit_or};
 ghost use Rattle.bitlane.specs.Evidence.{JoinLaws};
 

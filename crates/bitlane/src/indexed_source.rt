@@ -1,3 +1,4 @@
+// What the loops read: items by their index, whatever lends them.
 ghost use Rattle.std.specs.Prelude.{◌≡◌, ◌<◌, ℕ};
 
 /// Items that are read by their index.

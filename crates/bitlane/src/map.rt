@@ -1,3 +1,4 @@
+// Loops over items that are read by their index, in a form that LLVM vectorises.
 ghost use Rattle.std.specs.Prelude.{◌≡◌, ◌<◌, ℕ, length, slice_index_or, true, IfOk};
 ghost use Rattle.bitlane.specs.Maps.{MapsTo, Joined};
 

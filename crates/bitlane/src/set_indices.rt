@@ -1,3 +1,4 @@
+// The places of the true values, for loops that leave rows out.
 ghost use Rattle.std.specs.Prelude.{◌≡◌};
 ghost use Rattle.std.specs.Iterator.{YieldsFirst, item_count};
 ghost use Rattle.bitlane.specs.Bits.{true_indices};

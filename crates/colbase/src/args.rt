@@ -1,3 +1,4 @@
+// The arguments of a call. That each column has `row_count` rows is tested by the call, not here.
 ghost use Rattle.std.specs.Prelude.{◌≡◌, ◌<◌, length, Some, slice_get};
 
 use crate::array::ArrayRef;

@@ -1,3 +1,5 @@
+// Arrays. One private function (`make`) makes each, so that its layout is sound; everything else about rows is proved on the plain
+// data that contracts see.
 ghost use Rattle.std.specs.Prelude.{◌≡◌, IfOk, IfErr};
 ghost use Rattle.colbase.specs.Arrays.{Sound, dtype, len};
 ghost use Rattle.colbase.specs.ArrayOf.{array_of};

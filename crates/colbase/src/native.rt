@@ -1,3 +1,5 @@
+// The eight integer types as Rust types: how each is stored in and lent by a primitive array. Generic code over them is
+// proved from the laws that stand behind the calls.
 ghost use Rattle.std.specs.Prelude.{◌≡◌};
 ghost use Rattle.std.specs.Option.{option_copied};
 ghost use Rattle.colbase.specs.Parts.{values_of};

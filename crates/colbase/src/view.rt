@@ -1,3 +1,4 @@
+// An array whose layout was tested once, for code that reads the parts of that layout.
 ghost use Rattle.std.specs.Prelude.{◌≡◌, ◌↔◌, IsTrue, IsSome, IfSome};
 
 use crate::array::ArrayRef;

@@ -1,3 +1,4 @@
+// The layouts as types, to name one in generic code.
 ghost use Rattle.std.specs.Prelude.{◌≡◌};
 
 use crate::array::ArrayRef;

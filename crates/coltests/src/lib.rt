@@ -1,10 +1,16 @@
-//! Tests of the columns and of what they are made of: worked values, calls that take memory, which is there, and generic calls at
-//! concrete types. They show what no contract says; a library crate has none of its own, so that it is proved once.
+//! Tests of columns and of what they are made of. They show what no contract says: that memory that is there is used, on every
+//! layout, what an iterator and a hash come to, and that generic calls serve at concrete types.
 #![tactic(auto)]
 
 #[cfg(test)]
-mod bitlane_tests;
+mod array_tests;
 #[cfg(test)]
-mod columns;
+mod bit_tests;
 #[cfg(test)]
-mod shared_tests;
+mod layouts;
+#[cfg(test)]
+mod owner_tests;
+#[cfg(test)]
+mod scalar_tests;
+#[cfg(test)]
+mod type_tests;

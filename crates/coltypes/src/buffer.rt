@@ -1,3 +1,4 @@
+// Values of a column: a range of a shared list.
 ghost use Rattle.std.specs.Prelude.{◌≡◌, ◌≤◌, length, IfOk, IfErr, slice_range, slice_get};
 ghost use Rattle.std.specs.Option.{option_copied};
 

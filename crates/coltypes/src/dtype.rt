@@ -1,3 +1,4 @@
+// Logical types: what kind of values a column has, and whether nulls may stand there.
 ghost use Rattle.std.specs.Prelude.{◌≡◌, ◌↔◌, IfOk, IfErr, IsTrue};
 ghost use Rattle.std.specs.Option.{option_copied};
 ghost use Rattle.coltypes.specs.LogicalTypeOf.{logical_type, extension_type};

@@ -1,3 +1,4 @@
+// Why calls give no value: one enum for all layers, whose variants name what was wrong by index or row.
 use std::alloc::AllocError;
 
 /// A check of a layout's constructor that fails.

@@ -1,3 +1,4 @@
+// Which rows are selected, with the two forms that select all and none kept apart, since they cost nothing.
 ghost use Rattle.std.specs.Prelude.{◌≡◌, ◌<◌, length, count_by};
 ghost use Rattle.bitlane.specs.Bits.{bit};
 ghost use Rattle.coltypes.specs.Masks.{mask_bits};

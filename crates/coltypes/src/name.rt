@@ -1,3 +1,4 @@
+// Names of extension types, as shared bytes, so that a type can be shared without memory.
 ghost use Rattle.std.specs.Prelude.{◌≡◌, ◌↔◌, IfOk, IfErr, IsTrue};
 
 use crate::ctx::ExecutionCtx;

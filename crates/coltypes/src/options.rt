@@ -1,3 +1,4 @@
+// The options of functions that have none.
 use std::fmt::{self, Display};
 
 /// The options of a function that has none. Its text is empty.

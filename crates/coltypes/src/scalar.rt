@@ -1,3 +1,4 @@
+// One value and its type. A scalar keeps the proof that its value is of the type.
 ghost use Rattle.std.specs.Prelude.{◌≡◌, IsTrue, option_map};
 ghost use Rattle.coltypes.specs.LogicalTypeOf.{logical_type};
 ghost use Rattle.coltypes.specs.CellOf.{cell_of};

@@ -1,3 +1,4 @@
+// Which rows are null. Three of the four forms say so without a value for each row.
 ghost use Rattle.std.specs.Prelude.{◌≡◌, ◌<◌, ◌≤◌, ℕ, length, None, IfOk, IfErr};
 ghost use Rattle.bitlane.specs.Bits.{bit};
 ghost use Rattle.coltypes.specs.Valid.{cast_validity};

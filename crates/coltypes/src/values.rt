@@ -1,3 +1,4 @@
+// The numbers of a primitive column, by their type, read as one kind of whole number.
 ghost use Rattle.std.specs.Prelude.{◌≡◌, ◌<◌, ◌≤◌, IsTrue};
 ghost use Rattle.coltypes.specs.Cut.{cut_values};
 ghost use Rattle.coltypes.specs.Fits.{in_range};

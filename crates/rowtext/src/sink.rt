@@ -1,3 +1,4 @@
+// Where text goes to. What it holds and how often it failed are ghost, so that clauses can name the cause of an error.
 ghost use Rattle.std.specs.Prelude.{◌≡◌, ◌≤◌, ◌<◌, ℕ, List, Option, length, take, IfOk, OnErr};
 ghost use Rattle.rowtext.specs.Bytes.{Grows};
 ghost use Rattle.rowtext.specs.FaultCounts.{Counts, HasRisen};

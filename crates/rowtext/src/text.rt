@@ -1,3 +1,4 @@
+// The text of an answer, as one list of bytes.
 ghost use Rattle.std.specs.Prelude.{◌≡◌};
 
 use std::marker::Model;

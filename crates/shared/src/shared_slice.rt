@@ -1,3 +1,4 @@
+// A range of a shared list: columns are cut and shared without copying an element.
 ghost use Rattle.std.specs.Prelude.{◌≡◌, ◌≤◌, length, IfOk, slice_range, slice_get};
 ghost use Rattle.std.specs.Option.{option_copied};
 

@@ -1,3 +1,4 @@
+// The boolean layout: truth values, and their validity.
 ghost use Rattle.std.specs.Prelude.{◌≡◌, length};
 ghost use Rattle.colbase.specs.Arrays.{bool};
 ghost use Rattle.colbase.specs.Faults.{Builds};

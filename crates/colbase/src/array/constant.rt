@@ -1,3 +1,4 @@
+// The constant layout: one scalar for each row.
 ghost use Rattle.std.specs.Prelude.{◌≡◌, None};
 ghost use Rattle.colbase.specs.Arrays.{constant};
 ghost use Rattle.colbase.specs.Faults.{Builds};

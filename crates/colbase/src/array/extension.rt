@@ -1,3 +1,4 @@
+// The extension layout: a storage column under the name of an extension type.
 ghost use Rattle.std.specs.Prelude.{◌≡◌};
 ghost use Rattle.colbase.specs.Faults.{BuildsExtension};
 

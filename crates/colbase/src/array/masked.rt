@@ -1,3 +1,4 @@
+// The masked layout: a child without nulls, and which of its rows are null.
 ghost use Rattle.std.specs.Prelude.{◌≡◌, IfOk, IfErr};
 ghost use Rattle.colbase.specs.Arrays.{masked, masked_type, len};
 ghost use Rattle.colbase.specs.Faults.{Builds, null_check};

@@ -1,3 +1,4 @@
+// The primitive layout: numbers of one type, and their validity.
 ghost use Rattle.std.specs.Prelude.{◌≡◌, length};
 ghost use Rattle.colbase.specs.Arrays.{primitive};
 ghost use Rattle.colbase.specs.Faults.{Builds};

@@ -1,3 +1,4 @@
+// A default type, which lists of types in small vectors need.
 use super::DType;
 
 /// The type of a column of nulls alone, which is what a place holds before a type is put there.

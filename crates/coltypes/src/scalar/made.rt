@@ -1,3 +1,4 @@
+// Scalars from a type and an optional value, and their parts. The invariant that the value is of the type is handed out here.
 ghost use Rattle.std.specs.Prelude.{◌≡◌, ◌↔◌, IsTrue, None, option_map};
 ghost use Rattle.std.specs.Option.{option_copied};
 ghost use Rattle.coltypes.specs.LogicalTypeOf.{logical_type};

@@ -1,3 +1,4 @@
+// Bit buffers and loops: memory that is there is used, closures that change, and generic calls at concrete types.
 ghost use Rattle.std.specs.Prelude.{◌≡◌, length, slice_index_or, Some};
 
 use bitlane::{
@@ -37,34 +38,20 @@ fn even_indices_of_sixty_five(rt: HostRuntime) -> Result<(), Fail> {
 }
 
 #[test]
-fn odd_indices_of_sixty_five(rt: HostRuntime) -> Result<(), Fail> {
+fn the_others_of_sixty_five(rt: HostRuntime) -> Result<(), Fail> {
     let even = BitBuffer::collect_bool_in(rt.alloc(), 65, |i| i % 2 == 0)?;
     let odd = even.not(rt.alloc())?;
-    assert_eq!(rt; odd.true_count(), 32);
-    assert_eq!(rt; odd.len(), even.len());
-    assert_eq!(rt; odd.and(rt.alloc(), &even)?.true_count(), 0);
-    Ok(())
-}
-
-#[test]
-fn three_of_sixty_five(rt: HostRuntime) -> Result<(), Fail> {
-    let even = BitBuffer::collect_bool_in(rt.alloc(), 65, |i| i % 2 == 0)?;
-    let part = even.share().slice(1, 4);
-    drop(even);
-    assert_eq!(rt; part.len(), 3);
     assert_eq!(rt;
-        (part.value(0), part.value(1), part.value(2)),
-        (false, true, false)
+        (odd.true_count(), odd.and(rt.alloc(), &even)?.true_count()),
+        (32, 0)
     );
     Ok(())
 }
 
 #[test]
-fn three_values_of_one_kind(rt: HostRuntime) -> Result<(), Fail> {
-    let set = BitBuffer::new_set(rt.alloc(), 3)?;
-    let unset = BitBuffer::new_unset(rt.alloc(), 3)?;
-    assert_eq!(rt; (set.len(), set.true_count()), (3, 3));
-    assert_eq!(rt; (unset.len(), unset.true_count()), (3, 0));
+fn values_of_one_kind(rt: HostRuntime) -> Result<(), Fail> {
+    assert_eq!(rt; BitBuffer::new_set(rt.alloc(), 3)?.true_count(), 3);
+    assert_eq!(rt; BitBuffer::new_unset(rt.alloc(), 3)?.true_count(), 0);
     Ok(())
 }
 
@@ -131,26 +118,4 @@ fn map_joins_whether_a_row_failed(rt: HostRuntime) {
     let overflows = map_checked_into(&source, &mut sums, |x| x.overflowing_add(50));
     assert_eq!(rt; sums, [57, 250, 59, 49]);
     assert!(rt; overflows);
-}
-
-#[test]
-fn map_joins_flags(rt: HostRuntime) {
-    let source = Numbers {
-        values: &[7, 200, 9, 255],
-    };
-    let mut same = [0u8; 4];
-    let flags = map_checked_into(&source, &mut same, |x| (x, if x < 10 { 1u8 } else { 2 }));
-    assert_eq!(rt; flags, 3);
-    assert_eq!(rt; same, [7, 200, 9, 255]);
-}
-
-#[test]
-fn map_joins_nothing(rt: HostRuntime) {
-    let source = Numbers {
-        values: &[7, 200, 9, 255],
-    };
-    let mut halves = [0u8; 4];
-    let nothing = map_checked_into(&source, &mut halves, |x| (x / 2, NoFailure));
-    assert_eq!(rt; nothing, NoFailure);
-    assert_eq!(rt; halves, [3, 100, 4, 127]);
 }
