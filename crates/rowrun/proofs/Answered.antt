@@ -2,7 +2,7 @@
 use Rattle.std.proofs.Common.{◌≡◌, ◌∙◌, ℕ, List, Option, Some, true, ◌⊎◌, inl, inr, refl, ap, sym, subst, arith}
 use Rattle.std.specs.Prelude.{unwrap_or}
 use Rattle.colbase.specs.Column.{Column}
-use Rattle.colbase.specs.declared.fault.Fault as f
+use Rattle.coltypes.specs.declared.fault.Fault as f
 use Rattle.rowtext.specs.declared.command.Command.TheVariants.{Unknown, WithInput, WithoutInput}
 use Rattle.rowtext.specs.declared.plan.Answer.{Answer}
 use Rattle.rowtext.specs.declared.plan.Answer.TheVariants.{Fault, Form, Printed, Unbuilt}
@@ -18,7 +18,7 @@ use Rattle.rowrun.specs.Batch.{Batch, batch_of}
 use Rattle.rowrun.specs.Faults.{fault_text}
 use Rattle.rowrun.specs.Generator.{summary}
 use Rattle.rowrun.specs.Results.{IsResult, HasFault}
-use Rattle.rowrun.specs.Text.{text}
+use Rattle.rowjson.specs.Text.{text}
 use Rattle.rowrun.specs.Words.{Generates, IsGen, Leads, WordsLead, command_of, cut, is_run, memory, printed, rows_asked}
 use Rattle.rowrun.proofs.Asked.{asked, asks, of_gen, run_of}
 

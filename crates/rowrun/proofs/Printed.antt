@@ -2,16 +2,16 @@
 use Rattle.std.proofs.Common.{◌≡◌, ◌∙◌, Bool, true, false, ◌||◌, ◌&&◌, List, [], ◌∷◌, Option, Some, None, refl, ap, sym}
 use Rattle.std.specs.Prelude.{if◌then◌else◌, unwrap_or, bytes_eq, IfOk, Result, Ok, Err}
 use Rattle.colbase.specs.Arrays.{Array, dtype}
-use Rattle.colbase.specs.declared.fault.Fault.{Fault}
-use Rattle.colbase.specs.LogicalType.{LogicalType, null, bool, primitive, utf8, binary, list, fixed_size_list, extension, with_nullability}
-use Rattle.colbase.specs.declared.dtype.Nullability.{Nullability}
-use Rattle.colbase.specs.declared.dtype.Nullability.TheVariants.{Nullable, NonNullable}
-use Rattle.colbase.specs.declared.dtype.PType.TheVariants.{I64}
-use Rattle.rowtypes.specs.Reading.{is_integer, is_time_unit, is_timestamp, timestamp_name}
+use Rattle.coltypes.specs.declared.fault.Fault.{Fault}
+use Rattle.coltypes.specs.LogicalType.{LogicalType, null, bool, primitive, utf8, binary, list, fixed_size_list, extension, with_nullability}
+use Rattle.coltypes.specs.declared.dtype.Nullability.{Nullability}
+use Rattle.coltypes.specs.declared.dtype.Nullability.TheVariants.{Nullable, NonNullable}
+use Rattle.coltypes.specs.declared.dtype.PType.TheVariants.{I64}
+use Rattle.rowelems.specs.Reading.{is_integer, is_time_unit, is_timestamp, timestamp_name}
 use Rattle.rowplan.specs.Outputs.{any_nullable, made_nullable, output_type, stated_type}
 use Rattle.rowexec.specs.Batch.{StatedAs}
-use Rattle.rowrun.specs.Functions.{first_label, truncated_output}
-use Rattle.rowrun.specs.Shows.{is_printed}
+use Rattle.rowsample.specs.Functions.{first_label, truncated_output}
+use Rattle.rowjson.specs.Text.{is_printed}
 
 integer_stays : (t : LogicalType) (n : Nullability) → is_integer I64 (with_nullability t n) ≡ is_integer I64 t
 integer_stays null n = refl
