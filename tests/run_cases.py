@@ -3,8 +3,8 @@
 
     run_cases.py PROGRAM
 
-Cases stand in cases/*.txt, and those that are made (each prefix of a batch, nesting, lengths) in this file. Only differences are printed, and
-at last `N passed, M failed`. The exit status is 0 if none failed. Anything on standard error is a difference.
+Cases stand in cases/*.txt, those that are made (each prefix of a batch, nesting, lengths) in this file, and each NAME.json of ../examples is
+one, whose output is NAME.txt. Only differences are printed, and at last `N passed, M failed`. The exit status is 0 if none failed. Anything on standard error is a difference.
 
 A case begins with `case NAME`, and has lines of these words, each with the rest of the line behind one blank:
 
@@ -58,6 +58,13 @@ def written(path):
     return cases
 
 
+def examples():
+    for path in sorted(glob.glob(os.path.join(HERE, "..", "examples", "*.json"))):
+        with open(path, "rb") as batch, open(path.removesuffix("json") + "txt", "rb") as text:
+            data, out = batch.read(), text.read()
+        yield Case(f"examples/{os.path.basename(path)}", data=data, status=3 if out.startswith(b"fault ") else 0, out=out)
+
+
 def with_one(column):
     """`wrapping_add` of one row of a column and 1."""
     one = '{"layout":"primitive","type":"i64","values":[1]}'
@@ -104,7 +111,7 @@ def main():
         sys.exit("usage: run_cases.py PROGRAM")
     program = os.path.abspath(sys.argv[1])
     cases = [case for path in sorted(glob.glob(os.path.join(HERE, "cases", "*.txt"))) for case in written(path)]
-    results = [passes(program, case) for case in [*cases, *made()]]
+    results = [passes(program, case) for case in [*cases, *examples(), *made()]]
     print(f"{sum(results)} passed, {len(results) - sum(results)} failed")
     sys.exit(not all(results))
 

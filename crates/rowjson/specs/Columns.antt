@@ -1,4 +1,4 @@
--- The columns that JSON values state.
+-- The columns that JSON values state, each as the plain data of its layout. None stands for a value that states no column.
 use Rattle.std.specs.Prelude.{ℕ, ℤ, pos, Bool, false, ◌+◌, ◌&&◌, nat_le, if◌then◌else◌, List, map, length, Option, Some, None, option_map, is_some, unwrap_or, codes}
 use Rattle.std.specs.List.{list_all}
 use Rattle.std.specs.Ordering.{nat_cmp, match_ordering}

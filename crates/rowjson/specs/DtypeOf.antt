@@ -1,4 +1,4 @@
--- The program's type that a plain type is.
+-- The program's type that a plain type is: the inverse of `logical_type`, for definitions that give scalars and extensions of the program.
 use Rattle.std.specs.Prelude.{Option, Some, None}
 use Rattle.coltypes.specs.declared.dtype.DType.{DType}
 use Rattle.coltypes.specs.declared.dtype.DType.TheVariants as dtypes

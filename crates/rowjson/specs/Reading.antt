@@ -1,4 +1,4 @@
--- How a reader of the batch answers.
+-- How a reader answers: exactly what a definition gives, unless memory ran out, so that each reader has one clause.
 use Rattle.std.specs.Prelude.{◌≡◌, Bool, List, map, Option, Some, None, is_some, Result, Ok, Err}
 use Rattle.rowjson.specs.Columns.{stored_values}
 use Rattle.rowjson.specs.declared.tree.Stop.{Stop}

@@ -1,4 +1,4 @@
--- The scalars that JSON values state.
+-- The scalars that JSON values state. A scalar holds the proof that its value is of its type, so it is made from the test of that.
 use Rattle.std.specs.Prelude.{◌≡◌, Bool, true, false, Option, Some, None, option_map, refl}
 use Rattle.serde_json.specs.Data.{Data}
 use Rattle.serde_json.specs.Find.{as_bool, as_number, as_integer}

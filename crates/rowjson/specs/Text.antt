@@ -118,5 +118,5 @@ is_i64 _ = false
 
 -- whether columns of the type are printed: numbers of 64 bits, and extensions over them
 abbrev pub is_printed : LogicalType → Bool
-is_printed (extension name unit zone storage) = is_i64 storage
+is_printed (extension name unit time_zone storage) = is_i64 storage
 is_printed t = is_i64 t

@@ -1,4 +1,4 @@
--- The types that JSON values state.
+-- The types that JSON values state, by name or as an extension. The recursion goes over the JSON value, so that it is one by its form.
 use Rattle.std.specs.Prelude.{ℕ, Bool, ◌-◌, ◌==◌, if◌then◌else◌, List, length, slice_index, take, Option, Some, None, option_map, codes}
 use Rattle.std.specs.Ordering.{nat_cmp, match_ordering}
 use Rattle.std.specs.Cmp.Lexicographic.{slice_cmp}

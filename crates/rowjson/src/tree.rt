@@ -1,4 +1,4 @@
-// The parts of a JSON value, and why one states no batch.
+// The parts of a JSON value, and why one states no batch. A reader stops at the first part that is missing, and want of memory is told apart.
 ghost use Rattle.std.specs.Prelude.{◌≡◌, option_map, IfOk, IsErrOf, Some, None};
 ghost use Rattle.serde_json.specs.View.{view, items_view};
 ghost use Rattle.rowjson.specs.declared.tree.Stop.TheVariants.{Memory};

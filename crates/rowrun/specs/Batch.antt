@@ -1,4 +1,4 @@
--- The batch that bytes state, over the JSON value that `serde_json` reads from them.
+-- The batch that bytes state, over the JSON value that `serde_json` reads from them. Exactly the known keys must be there.
 use Rattle.std.specs.Prelude.{ℕ, ℤ, ◌&&◌, nat_le, if◌then◌else◌, List, Option, Some, None, option_map, codes}
 use Rattle.std.specs.Str.{bytes_eq}
 use Rattle.serde_json.specs.Data.{Data}

@@ -1,4 +1,4 @@
--- The line of a fault.
+-- The line of a fault: its name and numbers, for each variant, so that the text of a fault is determined by the fault alone.
 use Rattle.std.specs.Prelude.{ℕ, List, [], ◌∷◌, ◌++◌, codes, decimal}
 use Rattle.std.specs.List.{flat_map}
 use Rattle.coltypes.specs.declared.fault.Fault.{Fault}

@@ -1,4 +1,4 @@
--- The two columns that `gen` makes, and the summary of their checked sums.
+-- The two columns that `gen` makes, and the summary of their checked sums, by the number of rows alone.
 use Rattle.std.specs.Prelude.{◌≡◌, ◌<◌, ℕ, zero, suc, ◌+◌, ◌*◌, ◌%◌, ◌==◌, not, ℤ, pos, ◌+ℤ◌, Bool, if◌then◌else◌, List, [], ◌∷◌, ◌++◌, Option, Some, None, option_map, unwrap_or, is_some, get_or, codes, decimal}
 use Rattle.std.specs.Fmt.{signed_decimal}
 use Rattle.bitlane.specs.Bits.{bit, tabulate}

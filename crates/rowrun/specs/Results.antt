@@ -1,4 +1,5 @@
--- What the call of a batch answers: the column that is its result, or the faults that have a cause.
+-- What the call of a batch answers: the column that is its result, or the faults that have a cause. Both are those of an engine's call of
+-- the function, by its meaning.
 use Rattle.std.specs.Prelude.{◌≡◌, ℕ, ◌<◌, Bool, true, false, ◌||◌, List, length, get_or, Option, None}
 use Rattle.std.specs.Int.{is_positive}
 use Rattle.colbase.specs.Arrays.{Array}

@@ -1,4 +1,4 @@
--- The words that the call knows, and what they and the bytes of an input lead to.
+-- The words that the call knows, and what they and the bytes of an input lead to. Each answer says that the engine was called, where it was.
 use Rattle.std.specs.Prelude.{◌≡◌, ◌≤◌, ℕ, Bool, false, ◌&&◌, nat_le, if◌then◌else◌, List, [], ◌∷◌, map, String, string_bytes, Option, Some, None, IsSome, codes, decimal}
 use Rattle.std.specs.declared.alloc.Global.{Global}
 use Rattle.std.specs.Str.{bytes_eq}

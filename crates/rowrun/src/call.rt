@@ -1,4 +1,4 @@
-// The call from bytes to bytes.
+// The call from bytes to bytes. How it reads and writes is the crate rowtext's; this file states what words and bytes lead to.
 ghost use Rattle.std.specs.Prelude.{◌≡◌, ◌≤◌, ◌⊎◌, ℕ, List, true, false, map, Some, ⊤, IfOk, IfErr, string_bytes};
 ghost use Rattle.colbase.specs.Arrays.{column, dtype};
 ghost use Rattle.colbase.specs.Column.{Column};

@@ -1,4 +1,5 @@
-// The two columns that `gen` makes, and the summary of their checked sums.
+// The two columns that `gen` makes, and the summary of their checked sums. The sums are the engine's, so that a measurement of the
+// program measures the call of a row function.
 ghost use Rattle.std.specs.Prelude.{◌≡◌, ◌≤◌, ◌<◌, ℕ, true, option_map, IfOk, IfErr, OnOk};
 ghost use Rattle.colbase.specs.Arrays.{dtype, len, row};
 ghost use Rattle.coltypes.specs.Cell.{number};

@@ -1,4 +1,4 @@
-// A batch from the bytes that state it.
+// A batch from the bytes that state it: the called function by its name and options, its number of rows, and the columns.
 ghost use Rattle.std.specs.Prelude.{◌≡◌, IfOk, IsErrOf, IsSome, Some, None};
 ghost use Rattle.serde_json.specs.View.{view};
 ghost use Rattle.rowrun.specs.Batch.{call_in, batch_in, batch_of, ticks_in, without_options};

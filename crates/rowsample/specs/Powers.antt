@@ -1,4 +1,4 @@
--- Powers of 10, each with the numbers whose product with it is an i64.
+-- Powers of 10, each with the numbers whose product with it is an i64: two comparisons stand in for a product of 128 bits.
 use Rattle.std.specs.Prelude.{ℕ, ◌^◌, ◌-◌, ◌/◌, ℤ, pos, ◌*ℤ◌, ◌≤ℤ◌, neg_ℤ, ◌↔◌, FitsSigned}
 use Rattle.std.specs.Int.{w64}
 use Rattle.rowsample.specs.declared.rescale.Power.{Power}

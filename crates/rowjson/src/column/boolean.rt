@@ -1,4 +1,4 @@
-// Columns of truth values.
+// Columns of truth values. They share the reading of values with whole numbers by the trait `ColumnValue`.
 ghost use Rattle.serde_json.specs.View.{view};
 ghost use Rattle.rowjson.specs.Columns.{laid_out, bool_in};
 ghost use Rattle.rowjson.specs.Reading.{Gives};

@@ -1,4 +1,4 @@
-// Columns of one scalar in each row.
+// Columns of one scalar in each row, whose number of rows is stated and so has a limit of its own.
 ghost use Rattle.serde_json.specs.View.{view};
 ghost use Rattle.rowjson.specs.Columns.{constant_in};
 ghost use Rattle.rowjson.specs.Reading.{Gives};

@@ -1,4 +1,4 @@
-// Extension types, and columns of the extension layout.
+// Extension types, and columns of the extension layout. Both state a name, a unit and a zone over a storage, by keys that differ in the name alone.
 ghost use Rattle.std.specs.Prelude.{◌≡◌, Some, IfOk, option_map};
 ghost use Rattle.serde_json.specs.View.{view};
 ghost use Rattle.colbase.specs.Arrays.{extension, dtype};

@@ -1,4 +1,4 @@
-// Columns whose rows are null where a validity says so.
+// Columns whose rows are null where a validity says so, over a child that has no null.
 ghost use Rattle.serde_json.specs.View.{view};
 ghost use Rattle.rowjson.specs.Columns.{masked_by, masked_in};
 ghost use Rattle.rowjson.specs.Reading.{Gives};

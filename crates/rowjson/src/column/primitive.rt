@@ -1,4 +1,4 @@
-// Columns of whole numbers.
+// Columns of whole numbers, with one impl of `ColumnValue` for each of the eight types: impls that a macro writes are refused.
 ghost use Rattle.serde_json.specs.View.{view, items_view};
 ghost use Rattle.colbase.specs.Arrays.{primitive};
 ghost use Rattle.rowjson.specs.Columns.{laid_out, integer_array, primitive_in};

@@ -1,4 +1,4 @@
-// The scalar that a JSON value states.
+// The scalar that a JSON value states under a type, which is read before, so that a number is judged by its range.
 ghost use Rattle.std.specs.Prelude.{◌≡◌, Some, None, option_and_then};
 ghost use Rattle.serde_json.specs.Find.{as_number, as_integer};
 ghost use Rattle.serde_json.specs.View.{view};

@@ -1,4 +1,4 @@
-// The types of columns.
+// The types of columns: a name, or an object that states an extension over a type.
 ghost use Rattle.std.specs.Prelude.{◌≡◌, option_map, option_and_then, codes};
 ghost use Rattle.coltypes.specs.LogicalTypeOf.{logical_type};
 ghost use Rattle.serde_json.specs.Find.{get};

@@ -1,4 +1,4 @@
-// The validity of a column.
+// The validity of a column, by the key `valid` or by the nulls among its values.
 ghost use Rattle.std.specs.Prelude.{◌≡◌, IfOk};
 ghost use Rattle.std.specs.List.{list_all};
 ghost use Rattle.serde_json.specs.Find.{as_bool, as_str};

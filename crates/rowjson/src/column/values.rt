@@ -1,4 +1,4 @@
-// The values of a column, with or without nulls.
+// The values of a column, with or without nulls, for each type that a column lists. What is stored under a null is determined by the type.
 ghost use Rattle.std.specs.Prelude.{◌≡◌, List, Option, Some, IfOk, IsErrOf, None};
 ghost use Rattle.serde_json.specs.View.{view, items_view};
 ghost use Rattle.rowjson.specs.Columns.{array_of};

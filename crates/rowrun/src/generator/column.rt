@@ -1,4 +1,4 @@
-// The columns that are generated.
+// The columns that are generated, each by a pattern whose remainders are counted on, without a division a row.
 ghost use Rattle.std.specs.Prelude.{◌≡◌, ◌<◌, ◌≤◌, ◌+◌, ◌%◌, ◌^◌, [], ◌∷◌, pos, if◌then◌else◌, IfOk, IfErr};
 ghost use Rattle.bitlane.specs.Bits.{tabulate};
 ghost use Rattle.coltypes.specs.declared.fault.Fault.TheVariants.{Memory};

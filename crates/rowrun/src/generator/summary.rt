@@ -1,4 +1,4 @@
-// The summary of a column: its rows, its null rows, and the sum of the others.
+// The summary of a column: its rows, its null rows, and the sum of the others, which stays in range since each is small.
 ghost use Rattle.std.specs.Prelude.{◌≡◌, ◌≤◌, ◌<◌, ◌+◌, ◌++◌, ◌+ℤ◌, ℕ, pos, true, length, if◌then◌else◌, FitsSigned, IfOk, IfSome, OnOk};
 ghost use Rattle.std.specs.Int.{w64};
 ghost use Rattle.coltypes.specs.Masks.{mask_bits};
