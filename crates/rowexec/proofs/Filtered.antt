@@ -4,10 +4,11 @@ use Rattle.std.specs.Prelude.{is_some}
 use Rattle.bitlane.specs.Bits.{bit}
 use Rattle.bitlane.proofs.Tables.{get_or-tabulate, length-tabulate}
 use Rattle.colbase.specs.Arrays.{Array, len, row, rows}
-use Rattle.colbase.specs.Cell.{Cell}
-use Rattle.colbase.specs.Keep.{Filters, keep, place, trues}
-use Rattle.colbase.specs.LogicalType.{LogicalType}
-use Rattle.colbase.specs.declared.fault.Fault.{Fault}
+use Rattle.coltypes.specs.Cell.{Cell}
+use Rattle.colbase.specs.Selects.{Filters}
+use Rattle.coltypes.specs.Keep.{keep, place, trues}
+use Rattle.coltypes.specs.LogicalType.{LogicalType}
+use Rattle.coltypes.specs.declared.fault.Fault.{Fault}
 use Rattle.rowtypes.specs.Rows.{DecodeFails, FirstUnread}
 use Rattle.rowplan.specs.Outcomes.{Outcome}
 use Rattle.rowexec.specs.Reads.{ReadFails, UnreadAt}
@@ -17,7 +18,7 @@ use Rattle.rowexec.specs.Selections.{FilteredFrom}
 use Rattle.rowexec.specs.Visits.{FilteredColumn, FullAt, RanRows, ValidColumn}
 use Rattle.rowexec.proofs.JoinedRows.{joined_marked}
 use Rattle.rowexec.proofs.Selecting.{full_at}
-use Rattle.rowexec.proofs.SetPlaces.{place_of, place_within}
+use Rattle.rowloops.proofs.SetPlaces.{place_of, place_within}
 use Rattle.rowexec.proofs.Unread.{ran_weaker}
 
 pub rows_at : (n : ℕ) (arrays : List Array) (i : ℕ) (d : Array) → EachHasRows n arrays → i < length arrays → len (get_or arrays i d) ≡ n

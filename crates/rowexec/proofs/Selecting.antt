@@ -3,10 +3,10 @@ use Rattle.std.proofs.Common.{◌≡◌, ◌∙◌, ℕ, zero, suc, ◌<◌, ◌
 use Rattle.std.specs.Prelude.{is_some, IsSome}
 use Rattle.bitlane.specs.Bits.{bit}
 use Rattle.colbase.specs.Arrays.{Array, row}
-use Rattle.colbase.specs.Cell.{Cell}
-use Rattle.colbase.specs.Keep.{trues}
-use Rattle.colbase.specs.Valid.{valid_at}
-use Rattle.colbase.specs.declared.validity.Validity.{Validity}
+use Rattle.coltypes.specs.Cell.{Cell}
+use Rattle.coltypes.specs.Keep.{trues}
+use Rattle.coltypes.specs.Valid.{valid_at}
+use Rattle.coltypes.specs.declared.validity.Validity.{Validity}
 use Rattle.rowplan.specs.declared.batch_plan.RowPolicy.{RowPolicy}
 use Rattle.rowexec.specs.Counts.{one_row, runs_valid_only}
 use Rattle.rowexec.specs.Rows.{EachHasRows, full_cells, with_cell}
