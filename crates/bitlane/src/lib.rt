@@ -7,8 +7,6 @@ mod failure_evidence;
 mod indexed_source;
 mod map;
 mod set_indices;
-#[cfg(test)]
-mod tests;
 
 pub use bits::BitBuffer;
 pub use failure_evidence::{FailureEvidence, NoFailure};

@@ -3,25 +3,26 @@ use Rattle.std.proofs.Common.{◌≡◌, ◌∙◌, ℕ, Bool, true, false, List
 use Rattle.std.specs.Prelude.{cond, option_map, IsSome, IsTrue, ◌↔◌, Result, Ok, Err, IfOk, IfErr}
 use Rattle.bitlane.specs.Bits.{tabulate}
 use Rattle.bitlane.proofs.Tables.{tabulate-same}
-use Rattle.colbase.specs.declared.dtype.Nullability.{Nullability}
-use Rattle.colbase.specs.declared.dtype.Nullability.TheVariants.{Nullable, NonNullable}
-use Rattle.colbase.specs.declared.fault.Fault.{Fault}
-use Rattle.colbase.specs.declared.fault.Fault.TheVariants.{Memory}
-use Rattle.colbase.specs.declared.dtype.ExtDType.{ExtDType}
-use Rattle.colbase.specs.declared.scalar.Scalar.{Scalar}
-use Rattle.colbase.specs.declared.scalar.ScalarValue.{ScalarValue}
-use Rattle.colbase.specs.declared.values.PrimitiveValues.{PrimitiveValues}
-use Rattle.colbase.specs.declared.validity.Validity.{Validity}
-use Rattle.colbase.specs.declared.validity.Validity.TheVariants as v
-use Rattle.colbase.specs.Cell.{Cell}
-use Rattle.colbase.specs.CellOf.{cell_of}
-use Rattle.colbase.specs.Fits.{fits_type}
-use Rattle.colbase.specs.LogicalType as types
-use Rattle.colbase.specs.LogicalTypeOf.{logical_type}
-use Rattle.colbase.specs.Valid.{Covers, valid_at, validity_nullability}
-use Rattle.colbase.specs.Values.{ptype_of}
+use Rattle.coltypes.specs.declared.dtype.Nullability.{Nullability}
+use Rattle.coltypes.specs.declared.dtype.Nullability.TheVariants.{Nullable, NonNullable}
+use Rattle.coltypes.specs.declared.fault.Fault.{Fault}
+use Rattle.coltypes.specs.declared.fault.Fault.TheVariants.{Memory}
+use Rattle.coltypes.specs.declared.dtype.ExtDType.{ExtDType}
+use Rattle.coltypes.specs.declared.scalar.Scalar.{Scalar}
+use Rattle.coltypes.specs.declared.scalar.ScalarValue.{ScalarValue}
+use Rattle.coltypes.specs.declared.values.PrimitiveValues.{PrimitiveValues}
+use Rattle.coltypes.specs.declared.validity.Validity.{Validity}
+use Rattle.coltypes.specs.declared.validity.Validity.TheVariants as v
+use Rattle.coltypes.specs.Cell.{Cell}
+use Rattle.coltypes.specs.CellOf.{cell_of}
+use Rattle.coltypes.specs.Fits.{fits_type}
+use Rattle.coltypes.specs.LogicalType as types
+use Rattle.coltypes.specs.LogicalTypeOf.{logical_type}
+use Rattle.coltypes.specs.Valid.{Covers, valid_at, validity_nullability}
+use Rattle.coltypes.specs.Values.{ptype_of}
 use Rattle.colbase.specs.Arrays.{Array, constant, masked, extension, primitive, bool, dtype, len, masked_type, payload, row, rows, stored}
-use Rattle.colbase.specs.Casts.{Casts, NoNull, cast_validity, refused_null}
+use Rattle.colbase.specs.Casts.{Casts, NoNull, refused_null}
+use Rattle.coltypes.specs.Valid.{cast_validity}
 use Rattle.colbase.specs.Hides.{Retypes}
 use Rattle.colbase.proofs.Rows.{present_rows}
 use Rattle.colbase.proofs.Nullable.{fits-with_nullability, nullable_fits}

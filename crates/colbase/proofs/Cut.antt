@@ -5,19 +5,20 @@ use Rattle.std.proofs.lemmas.List.{ext_get_or, get_or-take, get_or-drop, length-
 use Rattle.bitlane.specs.Bits.{tabulate}
 use Rattle.bitlane.proofs.Tables.{length-tabulate, get_or-tabulate, tabulate-same}
 use Rattle.bitlane.proofs.Parts.{length-slice_range}
-use Rattle.colbase.specs.Cell.{Cell, truth, number, bytes, list_of}
-use Rattle.colbase.specs.LogicalType.{LogicalType, fixed_size_list as fixed_type}
-use Rattle.colbase.specs.declared.validity.Validity.{Validity}
-use Rattle.colbase.specs.declared.validity.Validity.TheVariants as v
-use Rattle.colbase.specs.declared.values.PrimitiveValues.{PrimitiveValues}
-use Rattle.colbase.specs.declared.values.PrimitiveValues.TheVariants as p
-use Rattle.colbase.specs.declared.binary.BinaryView.{BinaryView}
-use Rattle.colbase.specs.declared.binary.BinaryView.TheVariants.{Inline}
-use Rattle.colbase.specs.Valid.{valid_at, validity_nullability, Covers}
-use Rattle.colbase.specs.Values.{number_at, ptype_of}
-use Rattle.colbase.specs.Views.{view_at, view_bytes, EachIsShort}
+use Rattle.coltypes.specs.Cell.{Cell, truth, number, bytes, list_of}
+use Rattle.coltypes.specs.LogicalType.{LogicalType, fixed_size_list as fixed_type}
+use Rattle.coltypes.specs.declared.validity.Validity.{Validity}
+use Rattle.coltypes.specs.declared.validity.Validity.TheVariants as v
+use Rattle.coltypes.specs.declared.values.PrimitiveValues.{PrimitiveValues}
+use Rattle.coltypes.specs.declared.values.PrimitiveValues.TheVariants as p
+use Rattle.coltypes.specs.declared.binary.BinaryView.{BinaryView}
+use Rattle.coltypes.specs.declared.binary.BinaryView.TheVariants.{Inline}
+use Rattle.coltypes.specs.Valid.{valid_at, validity_nullability, Covers}
+use Rattle.coltypes.specs.Values.{number_at, ptype_of}
+use Rattle.coltypes.specs.Views.{view_at, view_bytes, EachIsShort}
 use Rattle.colbase.specs.Arrays.{Array, constant, masked, extension, primitive, bool, varbin, varbinview, list, listview, fixed_size_list, len, dtype, masked_type, row, stored, rows, payload, constant_cell, MustRead, if_valid, list_between, list_within, Sound, OffsetsFit, StoredWhereValid}
-use Rattle.colbase.specs.Cut.{cut, cut_validity, cut_values}
+use Rattle.colbase.specs.Cut.{cut}
+use Rattle.coltypes.specs.Cut.{cut_validity, cut_values}
 
 get_or-slice_range : {X : Type 0} (xs : List X) (a b i : ℕ) (d : X) → i < b - a → get_or (slice_range xs a b) i d ≡ get_or xs (a + i) d
 get_or-slice_range xs a b i d h = get_or-take (b - a) (drop a xs) i d h ∙ get_or-drop a xs i d

@@ -3,21 +3,21 @@ use Rattle.std.proofs.Common.{◌≡◌, ◌∙◌, ℕ, ◌<◌, Bool, true, fa
 use Rattle.std.specs.Prelude.{cond, option_map}
 use Rattle.bitlane.specs.Bits.{bit, tabulate}
 use Rattle.bitlane.proofs.Tables.{length-tabulate, get_or-tabulate, tabulate-same}
-use Rattle.colbase.specs.declared.dtype.Nullability.{Nullability}
-use Rattle.colbase.specs.declared.dtype.Nullability.TheVariants.{Nullable, NonNullable}
-use Rattle.colbase.specs.declared.dtype.ExtDType.{ExtDType}
-use Rattle.colbase.specs.declared.scalar.Scalar.{Scalar}
-use Rattle.colbase.specs.declared.scalar.ScalarValue.{ScalarValue}
-use Rattle.colbase.specs.declared.values.PrimitiveValues.{PrimitiveValues}
-use Rattle.colbase.specs.declared.validity.Validity.{Validity}
-use Rattle.colbase.specs.declared.validity.Validity.TheVariants as v
-use Rattle.colbase.specs.Cell.{Cell}
-use Rattle.colbase.specs.CellOf.{cell_of}
-use Rattle.colbase.specs.Fits.{is_nullable, fits_type}
-use Rattle.colbase.specs.LogicalType as types
-use Rattle.colbase.specs.LogicalTypeOf.{extension_type, logical_type}
-use Rattle.colbase.specs.Valid.{Covers, validity_and, validity_nullability}
-use Rattle.colbase.specs.Values.{count, ptype_of}
+use Rattle.coltypes.specs.declared.dtype.Nullability.{Nullability}
+use Rattle.coltypes.specs.declared.dtype.Nullability.TheVariants.{Nullable, NonNullable}
+use Rattle.coltypes.specs.declared.dtype.ExtDType.{ExtDType}
+use Rattle.coltypes.specs.declared.scalar.Scalar.{Scalar}
+use Rattle.coltypes.specs.declared.scalar.ScalarValue.{ScalarValue}
+use Rattle.coltypes.specs.declared.values.PrimitiveValues.{PrimitiveValues}
+use Rattle.coltypes.specs.declared.validity.Validity.{Validity}
+use Rattle.coltypes.specs.declared.validity.Validity.TheVariants as v
+use Rattle.coltypes.specs.Cell.{Cell}
+use Rattle.coltypes.specs.CellOf.{cell_of}
+use Rattle.coltypes.specs.Fits.{is_nullable, fits_type}
+use Rattle.coltypes.specs.LogicalType as types
+use Rattle.coltypes.specs.LogicalTypeOf.{extension_type, logical_type}
+use Rattle.coltypes.specs.Valid.{Covers, validity_and, validity_nullability}
+use Rattle.coltypes.specs.Values.{count, ptype_of}
 use Rattle.colbase.specs.Arrays.{Array, constant, masked, extension, primitive, bool, dtype, len, masked_type, payload, row, rows, stored, if_valid}
 use Rattle.colbase.specs.Hides.{Hides, Retypes, shown_row}
 

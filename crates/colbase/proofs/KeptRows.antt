@@ -3,23 +3,24 @@ use Rattle.std.proofs.Common.{◌≡◌, ◌∙◌, ℕ, zero, suc, ◌<◌, Boo
 use Rattle.std.specs.Prelude.{count_by, pos, option_map, IsSome, Result, Ok, Err, IfOk}
 use Rattle.bitlane.specs.Bits.{tabulate}
 use Rattle.bitlane.proofs.Tables.{length-tabulate}
-use Rattle.colbase.specs.Cell.{Cell, truth, number}
-use Rattle.colbase.specs.CellOf.{cell_of}
-use Rattle.colbase.specs.LogicalType as types
-use Rattle.colbase.specs.declared.scalar.Scalar.{Scalar}
-use Rattle.colbase.specs.declared.validity.Validity.{Validity}
-use Rattle.colbase.specs.declared.validity.Validity.TheVariants as v
-use Rattle.colbase.specs.declared.values.PrimitiveValues.{PrimitiveValues}
-use Rattle.colbase.specs.declared.values.PrimitiveValues.TheVariants as p
-use Rattle.colbase.specs.Valid.{valid_at, validity_nullability, Covers}
-use Rattle.colbase.specs.Values.{count, number_at, ptype_of}
+use Rattle.coltypes.specs.Cell.{Cell, truth, number}
+use Rattle.coltypes.specs.CellOf.{cell_of}
+use Rattle.coltypes.specs.LogicalType as types
+use Rattle.coltypes.specs.declared.scalar.Scalar.{Scalar}
+use Rattle.coltypes.specs.declared.validity.Validity.{Validity}
+use Rattle.coltypes.specs.declared.validity.Validity.TheVariants as v
+use Rattle.coltypes.specs.declared.values.PrimitiveValues.{PrimitiveValues}
+use Rattle.coltypes.specs.declared.values.PrimitiveValues.TheVariants as p
+use Rattle.coltypes.specs.Valid.{valid_at, validity_nullability, Covers}
+use Rattle.coltypes.specs.Values.{count, number_at, ptype_of}
 use Rattle.colbase.specs.Parts.{scalar_of}
 use Rattle.colbase.specs.Arrays.{Array, constant, masked, extension, primitive, bool, varbin, varbinview, list, listview, fixed_size_list, len, dtype, masked_type, row, stored, rows, payload, constant_cell, MustRead, if_valid, Sound}
-use Rattle.colbase.specs.declared.mask.Mask.{Mask}
-use Rattle.colbase.specs.declared.mask.Mask.TheVariants as m
-use Rattle.colbase.specs.Masks.{mask_bits}
-use Rattle.colbase.specs.Keep.{keep, trues, place, keep_validity, keep_values, Selects, Filters}
-use Rattle.colbase.proofs.Masks.{count_true, count_false}
+use Rattle.coltypes.specs.declared.mask.Mask.{Mask}
+use Rattle.coltypes.specs.declared.mask.Mask.TheVariants as m
+use Rattle.coltypes.specs.Masks.{mask_bits}
+use Rattle.coltypes.specs.Keep.{keep, trues, place, keep_validity, keep_values}
+use Rattle.colbase.specs.Selects.{Selects, Filters}
+use Rattle.coltypes.proofs.Masks.{count_true, count_false}
 
 pub trues-count_by : (bits : List Bool) → count_by (λ b. b) bits ≡ trues bits
 trues-count_by [] = refl

@@ -1,13 +1,9 @@
 pub mod Casting
 pub mod Cut
-pub mod EqualCells
 pub mod HiddenRows
 pub mod KeptRows
 pub mod Lowest
-pub mod Masks
 pub mod Nullable
-pub mod Picked
 pub mod Results
 pub mod Rows
-pub mod Scalars
 pub mod OwnValidity

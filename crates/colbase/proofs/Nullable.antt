@@ -1,14 +1,14 @@
 -- A value of a type is a value of the type made nullable.
 use Rattle.std.proofs.Common.{◌≡◌, ◌∙◌, ℕ, true, false, Option, Some, None, refl}
 use Rattle.std.specs.Prelude.{IsTrue}
-use Rattle.colbase.specs.declared.dtype.Nullability.{Nullability}
-use Rattle.colbase.specs.declared.dtype.Nullability.TheVariants.{Nullable}
-use Rattle.colbase.specs.declared.validity.Validity.{Validity}
-use Rattle.colbase.specs.declared.validity.Validity.TheVariants as v
-use Rattle.colbase.specs.Cell.{Cell, truth, number, bytes, list as list_cell}
-use Rattle.colbase.specs.Fits.{fits, fits_type, is_nullable}
-use Rattle.colbase.specs.LogicalType.{LogicalType, null, bool, primitive, utf8, binary, list, fixed_size_list, extension, nullability_of, with_nullability}
-use Rattle.colbase.specs.Valid.{valid_at}
+use Rattle.coltypes.specs.declared.dtype.Nullability.{Nullability}
+use Rattle.coltypes.specs.declared.dtype.Nullability.TheVariants.{Nullable}
+use Rattle.coltypes.specs.declared.validity.Validity.{Validity}
+use Rattle.coltypes.specs.declared.validity.Validity.TheVariants as v
+use Rattle.coltypes.specs.Cell.{Cell, truth, number, bytes, list as list_cell}
+use Rattle.coltypes.specs.Fits.{fits, fits_type, is_nullable}
+use Rattle.coltypes.specs.LogicalType.{LogicalType, null, bool, primitive, utf8, binary, list, fixed_size_list, extension, nullability_of, with_nullability}
+use Rattle.coltypes.specs.Valid.{valid_at}
 use Rattle.colbase.specs.Arrays.{masked_type}
 
 pub fits-with_nullability : (t : LogicalType) (to : Nullability) (c : Cell) → fits (with_nullability t to) c ≡ fits t c

@@ -1,19 +1,20 @@
 -- The validity that an array has of its own: it covers the rows, and where it may hold nulls the type is nullable.
 use Rattle.std.proofs.Common.{◌≡◌, ◌∙◌, ℕ, Bool, true, Option, Some, None, refl, ap, sym}
-use Rattle.colbase.specs.declared.binary.BinaryKind.{BinaryKind}
-use Rattle.colbase.specs.declared.binary.BinaryKind.TheVariants.{Utf8, Binary}
-use Rattle.colbase.specs.declared.dtype.Nullability.{Nullability}
-use Rattle.colbase.specs.declared.dtype.Nullability.TheVariants.{NonNullable, Nullable}
-use Rattle.colbase.specs.declared.scalar.ScalarValue.{ScalarValue}
-use Rattle.colbase.specs.declared.validity.Validity.{Validity}
-use Rattle.colbase.specs.declared.validity.Validity.TheVariants as v
+use Rattle.coltypes.specs.declared.binary.BinaryKind.{BinaryKind}
+use Rattle.coltypes.specs.declared.binary.BinaryKind.TheVariants.{Utf8, Binary}
+use Rattle.coltypes.specs.declared.dtype.Nullability.{Nullability}
+use Rattle.coltypes.specs.declared.dtype.Nullability.TheVariants.{NonNullable, Nullable}
+use Rattle.coltypes.specs.declared.scalar.ScalarValue.{ScalarValue}
+use Rattle.coltypes.specs.declared.validity.Validity.{Validity}
+use Rattle.coltypes.specs.declared.validity.Validity.TheVariants as v
 use Rattle.colbase.specs.Arrays.{Array, Sound, bool, constant, dtype, extension, fixed_size_list, len, list, listview, masked, masked_type, primitive, varbin, varbinview, binary_type}
-use Rattle.colbase.specs.CellOf.{cell_of}
-use Rattle.colbase.specs.Fits.{fits_type, is_nullable}
-use Rattle.colbase.specs.LogicalType.{LogicalType, nullability_of}
-use Rattle.colbase.specs.LogicalTypeOf.{logical_type}
-use Rattle.colbase.specs.Parts.{constant_validity, own_validity}
-use Rattle.colbase.specs.Valid.{Covers, validity_nullability}
+use Rattle.coltypes.specs.CellOf.{cell_of}
+use Rattle.coltypes.specs.Fits.{fits_type, is_nullable}
+use Rattle.coltypes.specs.LogicalType.{LogicalType, nullability_of}
+use Rattle.coltypes.specs.LogicalTypeOf.{logical_type}
+use Rattle.coltypes.specs.Scalars.{constant_validity}
+use Rattle.colbase.specs.Parts.{own_validity}
+use Rattle.coltypes.specs.Valid.{Covers, validity_nullability}
 use Rattle.colbase.proofs.Nullable.{made_nullable}
 use Rattle.std.specs.Prelude.{option_map, IsTrue}
 

@@ -1,19 +1,20 @@
 -- Which rows of an array are null.
 use Rattle.std.proofs.Common.{◌≡◌, ◌∙◌, ℕ, ◌<◌, Bool, true, false, Option, Some, None, refl, ap, sym}
 use Rattle.std.specs.Prelude.{is_some, IsSome, not}
-use Rattle.colbase.specs.Cell.{Cell}
-use Rattle.colbase.specs.declared.scalar.ScalarValue.{ScalarValue}
-use Rattle.colbase.specs.declared.dtype.Nullability.{Nullability}
-use Rattle.colbase.specs.declared.dtype.Nullability.TheVariants.{NonNullable, Nullable}
-use Rattle.colbase.specs.CellOf.{cell_of}
-use Rattle.colbase.specs.Valid.{valid_at, validity_kind}
-use Rattle.colbase.specs.declared.validity.Validity.{Validity}
-use Rattle.colbase.specs.declared.validity.Validity.TheVariants as v
-use Rattle.colbase.specs.declared.validity.ValidityKind.TheVariants.{NoNulls}
+use Rattle.coltypes.specs.Cell.{Cell}
+use Rattle.coltypes.specs.declared.scalar.ScalarValue.{ScalarValue}
+use Rattle.coltypes.specs.declared.dtype.Nullability.{Nullability}
+use Rattle.coltypes.specs.declared.dtype.Nullability.TheVariants.{NonNullable, Nullable}
+use Rattle.coltypes.specs.CellOf.{cell_of}
+use Rattle.coltypes.specs.Valid.{valid_at, validity_kind}
+use Rattle.coltypes.specs.declared.validity.Validity.{Validity}
+use Rattle.coltypes.specs.declared.validity.Validity.TheVariants as v
+use Rattle.coltypes.specs.declared.validity.ValidityKind.TheVariants.{NoNulls}
 use Rattle.colbase.specs.Faults.{lowest, null_at}
-use Rattle.colbase.specs.Parts.{own_validity, constant_validity}
-use Rattle.colbase.specs.LogicalType.{nullability_of}
-use Rattle.colbase.specs.LogicalTypeOf.{logical_type}
+use Rattle.colbase.specs.Parts.{own_validity}
+use Rattle.coltypes.specs.Scalars.{constant_validity}
+use Rattle.coltypes.specs.LogicalType.{nullability_of}
+use Rattle.coltypes.specs.LogicalTypeOf.{logical_type}
 use Rattle.colbase.specs.Arrays.{Array, constant, masked, extension, primitive, bool, varbin, varbinview, list, listview, fixed_size_list, row, len, Sound}
 use Rattle.std.specs.Prelude.{option_map, cond}
 use Rattle.colbase.proofs.Lowest.{lowest-never, lowest-none}

@@ -2,12 +2,12 @@
 use Rattle.std.proofs.Common.{◌≡◌, ap}
 use Rattle.std.specs.Coded.{Coded, coded_ℕ, coded_bool, coded_list}
 use base.Stored.{Gv, gnil, gnum, gcons}
-use Rattle.colbase.specs.contracts.validity.Validity as validity
-use Rattle.colbase.specs.contracts.values.PrimitiveValues as values
-use Rattle.colbase.specs.contracts.scalar.Scalar as scalar
-use Rattle.colbase.specs.contracts.dtype.ExtDType as ext
-use Rattle.colbase.specs.contracts.binary.BinaryView as view
-use Rattle.colbase.specs.contracts.binary.BinaryKind as kind
+use Rattle.coltypes.specs.contracts.validity.Validity as validity
+use Rattle.coltypes.specs.contracts.values.PrimitiveValues as values
+use Rattle.coltypes.specs.contracts.scalar.Scalar as scalar
+use Rattle.coltypes.specs.contracts.dtype.ExtDType as ext
+use Rattle.coltypes.specs.contracts.binary.BinaryView as view
+use Rattle.coltypes.specs.contracts.binary.BinaryKind as kind
 use Rattle.colbase.specs.Arrays.{Array, constant, masked, extension, primitive, bool, varbin, varbinview, list, listview, fixed_size_list}
 
 abbrev head : Gv → Gv

@@ -1,24 +1,24 @@
 -- An array by its layout, and its rows, payload and type.
 use Rattle.std.specs.Prelude.{◌≡◌, ℕ, ◌+◌, ◌-◌, ◌*◌, ◌<◌, ◌≤◌, Bool, true, List, length, Option, Some, None, IsSome, ◌⊎◌, option_map, if◌then◌else◌, nat_lt, slice_index, slice_range}
 use Rattle.bitlane.specs.Bits.{bit, tabulate}
-use Rattle.colbase.specs.declared.validity.Validity.{Validity}
-use Rattle.colbase.specs.declared.validity.Validity.TheVariants as v
-use Rattle.colbase.specs.declared.values.PrimitiveValues.{PrimitiveValues}
-use Rattle.colbase.specs.declared.scalar.Scalar.{Scalar}
-use Rattle.colbase.specs.declared.dtype.ExtDType.{ExtDType}
-use Rattle.colbase.specs.declared.dtype.Nullability.{Nullability}
-use Rattle.colbase.specs.declared.dtype.Nullability.TheVariants.{Nullable}
-use Rattle.colbase.specs.declared.binary.BinaryView.{BinaryView}
-use Rattle.colbase.specs.declared.binary.BinaryKind.{BinaryKind}
-use Rattle.colbase.specs.declared.binary.BinaryKind.TheVariants.{Utf8, Binary}
-use Rattle.colbase.specs.Cell.{Cell, truth, number, bytes, list_of}
-use Rattle.colbase.specs.CellOf.{cell_of}
-use Rattle.colbase.specs.LogicalType as types
-use Rattle.colbase.specs.LogicalTypeOf.{logical_type, extension_type}
+use Rattle.coltypes.specs.declared.validity.Validity.{Validity}
+use Rattle.coltypes.specs.declared.validity.Validity.TheVariants as v
+use Rattle.coltypes.specs.declared.values.PrimitiveValues.{PrimitiveValues}
+use Rattle.coltypes.specs.declared.scalar.Scalar.{Scalar}
+use Rattle.coltypes.specs.declared.dtype.ExtDType.{ExtDType}
+use Rattle.coltypes.specs.declared.dtype.Nullability.{Nullability}
+use Rattle.coltypes.specs.declared.dtype.Nullability.TheVariants.{Nullable}
+use Rattle.coltypes.specs.declared.binary.BinaryView.{BinaryView}
+use Rattle.coltypes.specs.declared.binary.BinaryKind.{BinaryKind}
+use Rattle.coltypes.specs.declared.binary.BinaryKind.TheVariants.{Utf8, Binary}
+use Rattle.coltypes.specs.Cell.{Cell, truth, number, bytes, list_of}
+use Rattle.coltypes.specs.CellOf.{cell_of}
+use Rattle.coltypes.specs.LogicalType as types
+use Rattle.coltypes.specs.LogicalTypeOf.{logical_type, extension_type}
 use Rattle.colbase.specs.Column.{Column}
-use Rattle.colbase.specs.Valid.{valid_at, validity_nullability, Covers}
-use Rattle.colbase.specs.Values.{count, number_at, ptype_of}
-use Rattle.colbase.specs.Views.{view_at, view_bytes, EachIsShort}
+use Rattle.coltypes.specs.Valid.{valid_at, validity_nullability, Covers}
+use Rattle.coltypes.specs.Values.{count, number_at, ptype_of}
+use Rattle.coltypes.specs.Views.{view_at, view_bytes, EachIsShort}
 
 pub data Array : Type 0 where
   -- one scalar in each of this many rows

@@ -1,24 +1,16 @@
 -- Arrays whose type is made nullable or not.
 use Rattle.std.specs.Prelude.{◌≡◌, ℕ, ◌<◌, Option, Some, None, IsSome, Result, MatchResult, option_map, ◌⊎◌}
-use Rattle.colbase.specs.declared.validity.Validity.{Validity}
-use Rattle.colbase.specs.declared.validity.Validity.TheVariants as v
-use Rattle.colbase.specs.declared.dtype.Nullability.{Nullability}
-use Rattle.colbase.specs.declared.dtype.Nullability.TheVariants.{Nullable, NonNullable}
-use Rattle.colbase.specs.declared.fault.Fault.{Fault}
-use Rattle.colbase.specs.declared.fault.Fault.TheVariants.{Memory, Cast}
-use Rattle.colbase.specs.LogicalType.{nullability_of, with_nullability}
+use Rattle.coltypes.specs.declared.dtype.Nullability.{Nullability}
+use Rattle.coltypes.specs.declared.dtype.Nullability.TheVariants.{Nullable, NonNullable}
+use Rattle.coltypes.specs.declared.fault.Fault.{Fault}
+use Rattle.coltypes.specs.declared.fault.Fault.TheVariants.{Memory, Cast}
+use Rattle.coltypes.specs.LogicalType.{nullability_of, with_nullability}
 use Rattle.colbase.specs.Arrays.{Array, dtype, len, payload, row, rows}
 use Rattle.colbase.specs.Faults.{lowest, null_at}
 
 -- no row is null
 abbrev pub NoNull : Array → Type 0
 NoNull a = (i : ℕ) → i < len a → IsSome (row a i)
-
--- under a type that is not nullable that no row is null, and else the same rows
-abbrev pub cast_validity : Validity → Nullability → Validity
-cast_validity w NonNullable = v.NonNullable
-cast_validity v.NonNullable Nullable = v.AllValid
-cast_validity w Nullable = w
 
 -- a null row where none may be, the lowest
 abbrev pub refused_null : Array → Nullability → Option ℕ

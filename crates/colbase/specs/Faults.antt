@@ -1,16 +1,16 @@
 -- The checks of the layouts' constructors: each is None where it passes, and else what is told.
 use Rattle.std.specs.Prelude.{◌≡◌, ◌≢◌, ℕ, zero, suc, ◌+◌, ◌-◌, ◌*◌, ◌^◌, ◌==◌, Bool, true, false, ◌&&◌, List, length, Option, Some, None, Result, MatchResult, option_map, is_some, not, ◌⊎◌, if◌then◌else◌, slice_index, nat_lt, min}
-use Rattle.colbase.specs.declared.validity.Validity.{Validity}
-use Rattle.colbase.specs.declared.validity.Validity.TheVariants as v
-use Rattle.colbase.specs.declared.binary.BinaryView.{BinaryView}
-use Rattle.colbase.specs.declared.dtype.ExtDType.{ExtDType}
-use Rattle.colbase.specs.declared.fault.Fault.{Fault}
-use Rattle.colbase.specs.declared.fault.Fault.TheVariants.{Memory, Layout}
-use Rattle.colbase.specs.declared.fault.LayoutFault.{LayoutFault}
-use Rattle.colbase.specs.declared.fault.LayoutFault.TheVariants as f
-use Rattle.colbase.specs.LogicalTypeOf.{logical_type}
-use Rattle.colbase.specs.Valid.{valid_at}
-use Rattle.colbase.specs.Views.{view_at, view_bytes}
+use Rattle.coltypes.specs.declared.validity.Validity.{Validity}
+use Rattle.coltypes.specs.declared.binary.BinaryView.{BinaryView}
+use Rattle.coltypes.specs.declared.dtype.ExtDType.{ExtDType}
+use Rattle.coltypes.specs.declared.fault.Fault.{Fault}
+use Rattle.coltypes.specs.declared.fault.Fault.TheVariants.{Memory, Layout}
+use Rattle.coltypes.specs.declared.fault.LayoutFault.{LayoutFault}
+use Rattle.coltypes.specs.declared.fault.LayoutFault.TheVariants as f
+use Rattle.coltypes.specs.LogicalTypeOf.{logical_type}
+use Rattle.coltypes.specs.Valid.{valid_at}
+use Rattle.coltypes.specs.Views.{view_at, view_bytes}
+use Rattle.coltypes.specs.Checks.{first_of, length_check}
 use Rattle.colbase.specs.Arrays.{Array, extension, dtype, len, row}
 
 abbrev pub or_here : Option ℕ → Bool → ℕ → Option ℕ
@@ -22,20 +22,6 @@ or_here None false n = None
 abbrev pub lowest : (ℕ → Bool) → ℕ → Option ℕ
 lowest test zero = None
 lowest test (suc n) = or_here (lowest test n) (test n) n
-
--- the first of two checks that fails
-abbrev pub first_of : Option LayoutFault → Option LayoutFault → Option LayoutFault
-first_of (Some f) next = Some f
-first_of None next = next
-
--- two lengths that differ
-abbrev pub same_length_check : ℕ → ℕ → Option LayoutFault
-same_length_check expected actual = if actual == expected then None else Some (f.Length expected actual)
-
--- a validity array of another length than the rows
-abbrev pub length_check : Validity → ℕ → Option LayoutFault
-length_check (v.Array bits) n = same_length_check n (length bits)
-length_check _ n = None
 
 abbrev pub null_at : Array → ℕ → Bool
 null_at c i = not (is_some (row c i))

@@ -1,9 +1,9 @@
 -- An array whose rows are null too where a truth value is false.
 use Rattle.std.specs.Prelude.{◌≡◌, ℕ, ◌<◌, Bool, List, Option, None, if◌then◌else◌}
 use Rattle.bitlane.specs.Bits.{bit}
-use Rattle.colbase.specs.declared.dtype.Nullability.TheVariants.{Nullable}
-use Rattle.colbase.specs.Cell.{Cell}
-use Rattle.colbase.specs.LogicalType.{LogicalType, with_nullability}
+use Rattle.coltypes.specs.declared.dtype.Nullability.TheVariants.{Nullable}
+use Rattle.coltypes.specs.Cell.{Cell}
+use Rattle.coltypes.specs.LogicalType.{LogicalType, with_nullability}
 use Rattle.colbase.specs.Arrays.{Array, dtype, len, row, stored}
 
 -- row i, where the truth value is true

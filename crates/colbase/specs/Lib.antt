@@ -1,12 +1,4 @@
-pub mod Cell
-pub mod LogicalType
-pub mod LogicalTypeOf
-pub mod CellOf
-pub mod Fits
 pub mod Column
-pub mod Valid
-pub mod Values
-pub mod Views
 pub mod Arrays
 pub mod ArrayCode
 pub mod ArrayOf
@@ -14,12 +6,8 @@ pub mod ArrayFalls
 pub mod Parts
 pub mod Faults
 pub mod Natives
-pub mod Scalars
-pub mod Masks
 pub mod Layouts
 pub mod Cut
 pub mod Hides
-pub mod Equal
-pub mod EqualLaws
-pub mod Keep
+pub mod Selects
 pub mod Casts

@@ -1,10 +1,10 @@
 -- What the eight integer types say of the values that they store and lend.
 use Rattle.std.proofs.Common.{◌≡◌, ℕ, List, [], ◌∷◌, Option, Some, refl, ap, zero, suc}
 use Rattle.std.specs.Prelude.{ℤ, pos, IsSome, slice_get, slice_index_or}
-use Rattle.colbase.specs.declared.values.PrimitiveValues.{PrimitiveValues}
-use Rattle.colbase.specs.declared.values.PrimitiveValues.TheVariants.{I8, I16, I32, I64, U8, U16, U32, U64}
-use Rattle.colbase.specs.declared.dtype.PType.TheVariants as ptype
-use Rattle.colbase.specs.Values.{ptype_of, i8_of, i16_of, i32_of, i64_of, u8_of, u16_of, u32_of, u64_of}
+use Rattle.coltypes.specs.declared.values.PrimitiveValues.{PrimitiveValues}
+use Rattle.coltypes.specs.declared.values.PrimitiveValues.TheVariants.{I8, I16, I32, I64, U8, U16, U32, U64}
+use Rattle.coltypes.specs.declared.dtype.PType.TheVariants as ptype
+use Rattle.coltypes.specs.Values.{ptype_of, i8_of, i16_of, i32_of, i64_of, u8_of, u16_of, u32_of, u64_of}
 
 -- the item that is there is the one at the index
 item_at : {X : Type 0} (xs : List X) (i : ℕ) (x d : X) → slice_get xs i ≡ Some x → slice_index_or xs i d ≡ x

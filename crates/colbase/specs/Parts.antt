@@ -1,15 +1,12 @@
 -- The parts of an array's layout.
 use Rattle.std.specs.Prelude.{ℕ, Bool, List, Option, Some, None}
-use Rattle.colbase.specs.declared.validity.Validity.{Validity}
-use Rattle.colbase.specs.declared.validity.Validity.TheVariants as v
-use Rattle.colbase.specs.declared.values.PrimitiveValues.{PrimitiveValues}
-use Rattle.colbase.specs.declared.scalar.Scalar.{Scalar}
-use Rattle.colbase.specs.declared.scalar.ScalarValue.{ScalarValue}
-use Rattle.colbase.specs.declared.binary.BinaryView.{BinaryView}
-use Rattle.colbase.specs.declared.dtype.Nullability.{Nullability}
-use Rattle.colbase.specs.declared.dtype.Nullability.TheVariants as n
-use Rattle.colbase.specs.LogicalType.{nullability_of}
-use Rattle.colbase.specs.LogicalTypeOf.{logical_type}
+use Rattle.coltypes.specs.declared.validity.Validity.{Validity}
+use Rattle.coltypes.specs.declared.values.PrimitiveValues.{PrimitiveValues}
+use Rattle.coltypes.specs.declared.scalar.Scalar.{Scalar}
+use Rattle.coltypes.specs.declared.binary.BinaryView.{BinaryView}
+use Rattle.coltypes.specs.LogicalType.{nullability_of}
+use Rattle.coltypes.specs.LogicalTypeOf.{logical_type}
+use Rattle.coltypes.specs.Scalars.{constant_validity}
 use Rattle.colbase.specs.Arrays.{Array, constant, masked, extension, primitive, bool, varbin, varbinview, list, listview, fixed_size_list}
 
 -- the scalar of the constant layout
@@ -69,16 +66,6 @@ offsets_of _ = None
 abbrev pub sizes_of : Array → Option (List ℕ)
 sizes_of (listview c offsets sizes v) = Some sizes
 sizes_of _ = None
-
--- no row is null
-abbrev pub no_nulls : Nullability → Validity
-no_nulls n.NonNullable = v.NonNullable
-no_nulls n.Nullable = v.AllValid
-
--- each row of a constant is null, or none
-abbrev pub constant_validity : Option ScalarValue → Nullability → Validity
-constant_validity None n = v.AllInvalid
-constant_validity (Some x) n = no_nulls n
 
 -- the validity that a layout has, or that its storage has
 abbrev pub own_validity : Array → Validity

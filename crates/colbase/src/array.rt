@@ -1,15 +1,10 @@
 ghost use Rattle.std.specs.Prelude.{◌≡◌, IfOk, IfErr};
 ghost use Rattle.colbase.specs.Arrays.{Sound, dtype, len};
 ghost use Rattle.colbase.specs.ArrayOf.{array_of};
-ghost use Rattle.colbase.specs.LogicalTypeOf.{logical_type};
+ghost use Rattle.coltypes.specs.LogicalTypeOf.{logical_type};
 
-use crate::ctx::ExecutionCtx;
-use crate::dtype::{DType, ExtDType};
-use crate::fault::{Fault, Res};
-use crate::scalar::Scalar;
-use crate::validity::Validity;
-use crate::values::PrimitiveValues;
 use bitlane::BitBuffer;
+use coltypes::{DType, ExecutionCtx, ExtDType, Fault, PrimitiveValues, Res, Scalar, Validity};
 use shared::Shared;
 use std::marker::Model;
 
@@ -61,7 +56,7 @@ impl Model for ArrayRef {
     ghost use Rattle.std.specs.Prelude.{◌≡◌};
     ghost use Rattle.colbase.specs.Arrays.{Array, Sound, depth, dtype, len};
     ghost use Rattle.colbase.specs.ArrayCode.{coded_array};
-    ghost use Rattle.colbase.specs.LogicalTypeOf.{logical_type};
+    ghost use Rattle.coltypes.specs.LogicalTypeOf.{logical_type};
 
     ghost Value = { Array };
 

@@ -1,39 +1,20 @@
-//! Columns: types, scalars, validity, and arrays that are shared layouts.
+//! Columns: arrays that are shared layouts, and what is asked of every array. The types, scalars and buffers that they are made
+//! of stand in `coltypes` and are named here too.
 #![tactic(auto)]
 
 mod args;
 mod array;
-mod binary;
-mod buffer;
-mod ctx;
-mod dtype;
-mod fault;
-mod filter;
-mod mask;
-mod name;
 mod native;
-mod options;
-mod scalar;
-#[cfg(test)]
-mod tests;
-mod validity;
-mod values;
 mod view;
 mod vtable;
 
 pub use args::ExecutionArgs;
 pub use array::{ArrayRef, BoolArray, ConstantArray, ExtensionArray, MaskedArray, PrimitiveArray};
-pub use binary::{BinaryKind, BinaryView};
-pub use buffer::Buffer;
-pub use ctx::ExecutionCtx;
-pub use dtype::{DType, ExtDType, Nullability, PType, TimeUnit};
-pub use fault::{Fault, LayoutFault, PlanDifference, Res, RowError, RowFault};
-pub use mask::Mask;
-pub use name::Name;
+pub use coltypes::{
+    BinaryKind, BinaryView, Buffer, DType, EmptyOptions, ExecutionCtx, ExtDType, Fault,
+    LayoutFault, Mask, Name, Nullability, PType, PlanDifference, PrimitiveValues, Res, RowError,
+    RowFault, Scalar, ScalarValue, TimeUnit, Validity, ValidityKind,
+};
 pub use native::NativeInt;
-pub use options::EmptyOptions;
-pub use scalar::{Scalar, ScalarValue};
-pub use validity::{Validity, ValidityKind};
-pub use values::PrimitiveValues;
 pub use view::ArrayView;
 pub use vtable::{Bool, Constant, Extension, Masked, Primitive, VTable};

@@ -1,19 +1,17 @@
 ghost use Rattle.std.specs.Prelude.{◌≡◌};
 ghost use Rattle.std.specs.Option.{option_copied};
 ghost use Rattle.colbase.specs.Parts.{values_of};
-ghost use Rattle.colbase.specs.Values.{i8_of, i16_of, i32_of, i64_of, u8_of, u16_of, u32_of, u64_of};
+ghost use Rattle.coltypes.specs.Values.{i8_of, i16_of, i32_of, i64_of, u8_of, u16_of, u32_of, u64_of};
 
 use crate::array::ArrayRef;
-use crate::buffer::Buffer;
-use crate::dtype::PType;
-use crate::values::PrimitiveValues;
+use coltypes::{Buffer, PType, PrimitiveValues};
 use std::marker::Copy;
 
 /// An integer type whose values a primitive array stores.
 pub trait NativeInt: Copy {
     ghost use Rattle.std.specs.Prelude.{List, Option, ℤ};
-    ghost use Rattle.colbase.specs.declared.values.PrimitiveValues.{PrimitiveValues};
-    ghost use Rattle.colbase.specs.declared.dtype.PType.{PType};
+    ghost use Rattle.coltypes.specs.declared.values.PrimitiveValues.{PrimitiveValues};
+    ghost use Rattle.coltypes.specs.declared.dtype.PType.{PType};
 
     // What `PTYPE` is.
     ghost ptype: { PType };
@@ -42,7 +40,7 @@ pub trait NativeInt: Copy {
         ensures { option_copied result ≡ lent (values_of array.now) };
 
     ghost use Rattle.std.specs.Prelude.{ℕ, length, ◌≡◌, Some, IsSome, slice_get};
-    ghost use Rattle.colbase.specs.Values.{count, number_at, ptype_of};
+    ghost use Rattle.coltypes.specs.Values.{count, number_at, ptype_of};
 
     ghost counted: { (xs : List Self) → count (stored xs) ≡ length xs };
 
@@ -58,9 +56,9 @@ pub trait NativeInt: Copy {
 }
 
 impl NativeInt for i8 {
-    ghost use Rattle.colbase.specs.declared.values.PrimitiveValues.TheVariants.{I8};
-    ghost use Rattle.colbase.specs.declared.dtype.PType.TheVariants.{I8 as ptype_i8};
-    ghost use Rattle.colbase.specs.Values.{i8_of};
+    ghost use Rattle.coltypes.specs.declared.values.PrimitiveValues.TheVariants.{I8};
+    ghost use Rattle.coltypes.specs.declared.dtype.PType.TheVariants.{I8 as ptype_i8};
+    ghost use Rattle.coltypes.specs.Values.{i8_of};
 
     ghost ptype = { ptype_i8 };
 
@@ -110,9 +108,9 @@ impl NativeInt for i8 {
 }
 
 impl NativeInt for i16 {
-    ghost use Rattle.colbase.specs.declared.values.PrimitiveValues.TheVariants.{I16};
-    ghost use Rattle.colbase.specs.declared.dtype.PType.TheVariants.{I16 as ptype_i16};
-    ghost use Rattle.colbase.specs.Values.{i16_of};
+    ghost use Rattle.coltypes.specs.declared.values.PrimitiveValues.TheVariants.{I16};
+    ghost use Rattle.coltypes.specs.declared.dtype.PType.TheVariants.{I16 as ptype_i16};
+    ghost use Rattle.coltypes.specs.Values.{i16_of};
 
     ghost ptype = { ptype_i16 };
 
@@ -162,9 +160,9 @@ impl NativeInt for i16 {
 }
 
 impl NativeInt for i32 {
-    ghost use Rattle.colbase.specs.declared.values.PrimitiveValues.TheVariants.{I32};
-    ghost use Rattle.colbase.specs.declared.dtype.PType.TheVariants.{I32 as ptype_i32};
-    ghost use Rattle.colbase.specs.Values.{i32_of};
+    ghost use Rattle.coltypes.specs.declared.values.PrimitiveValues.TheVariants.{I32};
+    ghost use Rattle.coltypes.specs.declared.dtype.PType.TheVariants.{I32 as ptype_i32};
+    ghost use Rattle.coltypes.specs.Values.{i32_of};
 
     ghost ptype = { ptype_i32 };
 
@@ -214,9 +212,9 @@ impl NativeInt for i32 {
 }
 
 impl NativeInt for i64 {
-    ghost use Rattle.colbase.specs.declared.values.PrimitiveValues.TheVariants.{I64};
-    ghost use Rattle.colbase.specs.declared.dtype.PType.TheVariants.{I64 as ptype_i64};
-    ghost use Rattle.colbase.specs.Values.{i64_of};
+    ghost use Rattle.coltypes.specs.declared.values.PrimitiveValues.TheVariants.{I64};
+    ghost use Rattle.coltypes.specs.declared.dtype.PType.TheVariants.{I64 as ptype_i64};
+    ghost use Rattle.coltypes.specs.Values.{i64_of};
 
     ghost ptype = { ptype_i64 };
 
@@ -266,9 +264,9 @@ impl NativeInt for i64 {
 }
 
 impl NativeInt for u8 {
-    ghost use Rattle.colbase.specs.declared.values.PrimitiveValues.TheVariants.{U8};
-    ghost use Rattle.colbase.specs.declared.dtype.PType.TheVariants.{U8 as ptype_u8};
-    ghost use Rattle.colbase.specs.Values.{u8_of};
+    ghost use Rattle.coltypes.specs.declared.values.PrimitiveValues.TheVariants.{U8};
+    ghost use Rattle.coltypes.specs.declared.dtype.PType.TheVariants.{U8 as ptype_u8};
+    ghost use Rattle.coltypes.specs.Values.{u8_of};
     ghost use Rattle.std.specs.Prelude.{pos};
 
     ghost ptype = { ptype_u8 };
@@ -319,9 +317,9 @@ impl NativeInt for u8 {
 }
 
 impl NativeInt for u16 {
-    ghost use Rattle.colbase.specs.declared.values.PrimitiveValues.TheVariants.{U16};
-    ghost use Rattle.colbase.specs.declared.dtype.PType.TheVariants.{U16 as ptype_u16};
-    ghost use Rattle.colbase.specs.Values.{u16_of};
+    ghost use Rattle.coltypes.specs.declared.values.PrimitiveValues.TheVariants.{U16};
+    ghost use Rattle.coltypes.specs.declared.dtype.PType.TheVariants.{U16 as ptype_u16};
+    ghost use Rattle.coltypes.specs.Values.{u16_of};
     ghost use Rattle.std.specs.Prelude.{pos};
 
     ghost ptype = { ptype_u16 };
@@ -372,9 +370,9 @@ impl NativeInt for u16 {
 }
 
 impl NativeInt for u32 {
-    ghost use Rattle.colbase.specs.declared.values.PrimitiveValues.TheVariants.{U32};
-    ghost use Rattle.colbase.specs.declared.dtype.PType.TheVariants.{U32 as ptype_u32};
-    ghost use Rattle.colbase.specs.Values.{u32_of};
+    ghost use Rattle.coltypes.specs.declared.values.PrimitiveValues.TheVariants.{U32};
+    ghost use Rattle.coltypes.specs.declared.dtype.PType.TheVariants.{U32 as ptype_u32};
+    ghost use Rattle.coltypes.specs.Values.{u32_of};
     ghost use Rattle.std.specs.Prelude.{pos};
 
     ghost ptype = { ptype_u32 };
@@ -425,9 +423,9 @@ impl NativeInt for u32 {
 }
 
 impl NativeInt for u64 {
-    ghost use Rattle.colbase.specs.declared.values.PrimitiveValues.TheVariants.{U64};
-    ghost use Rattle.colbase.specs.declared.dtype.PType.TheVariants.{U64 as ptype_u64};
-    ghost use Rattle.colbase.specs.Values.{u64_of};
+    ghost use Rattle.coltypes.specs.declared.values.PrimitiveValues.TheVariants.{U64};
+    ghost use Rattle.coltypes.specs.declared.dtype.PType.TheVariants.{U64 as ptype_u64};
+    ghost use Rattle.coltypes.specs.Values.{u64_of};
     ghost use Rattle.std.specs.Prelude.{pos};
 
     ghost ptype = { ptype_u64 };

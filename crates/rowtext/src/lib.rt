@@ -22,8 +22,3 @@ pub use standard::{StdSink, StdSource};
 pub use text::Text;
 pub use top_call::{TopCall, conduct};
 pub use write::write_whole;
-
-#[cfg(test)]
-mod tests;
-#[cfg(test)]
-mod top_call_tests;

@@ -9,8 +9,6 @@ mod counted;
 mod items;
 mod shared;
 mod shared_slice;
-#[cfg(test)]
-mod tests;
 
 pub use items::{Items, at};
 pub use shared::Shared;

@@ -1,13 +1,11 @@
 ghost use Rattle.std.specs.Prelude.{◌≡◌, length};
 ghost use Rattle.colbase.specs.Arrays.{bool};
-ghost use Rattle.colbase.specs.Faults.{Builds, length_check};
+ghost use Rattle.colbase.specs.Faults.{Builds};
+ghost use Rattle.coltypes.specs.Checks.{length_check};
 
 use super::{ArrayRef, Layout, make};
-use crate::ctx::ExecutionCtx;
-use crate::dtype::DType;
-use crate::fault::{Fault, Res};
-use crate::validity::Validity;
 use bitlane::BitBuffer;
+use coltypes::{DType, ExecutionCtx, Fault, Res, Validity};
 
 /// The layout of truth values with a validity.
 pub struct BoolArray;

@@ -3,22 +3,17 @@ ghost use Rattle.std.specs.Prelude.{◌≡◌, IfOk, IfErr, length};
 ghost use Rattle.colbase.specs.Arrays.{Sound, bool, constant, dtype, len, masked, primitive};
 ghost use Rattle.colbase.specs.Casts.{Casts, NoNull, refused_null};
 ghost use Rattle.colbase.specs.Hides.{Retypes};
-ghost use Rattle.colbase.specs.LogicalType.{with_nullability};
-ghost use Rattle.colbase.specs.LogicalTypeOf.{logical_type};
-ghost use Rattle.colbase.specs.Scalars.{scalar_type};
-ghost use Rattle.colbase.specs.Valid.{Covers};
-ghost use Rattle.colbase.specs.Values.{count};
+ghost use Rattle.coltypes.specs.LogicalType.{with_nullability};
+ghost use Rattle.coltypes.specs.LogicalTypeOf.{logical_type};
+ghost use Rattle.coltypes.specs.Scalars.{scalar_type};
+ghost use Rattle.coltypes.specs.Valid.{Covers};
+ghost use Rattle.coltypes.specs.Values.{count};
 
 use super::mask::extension_over;
 use super::masked::masked_dtype;
 use super::{ArrayRef, Layout, make};
-use crate::ctx::ExecutionCtx;
-use crate::dtype::{DType, Nullability};
-use crate::fault::{Fault, Res};
-use crate::scalar::Scalar;
-use crate::validity::Validity;
-use crate::values::PrimitiveValues;
 use bitlane::BitBuffer;
+use coltypes::{DType, ExecutionCtx, Fault, Nullability, PrimitiveValues, Res, Scalar, Validity};
 
 impl ArrayRef {
     /// The same rows and payload in the type made nullable or not, at its outer level alone. Copies no value. Looks at

@@ -3,9 +3,7 @@ ghost use Rattle.colbase.specs.Arrays.{constant};
 ghost use Rattle.colbase.specs.Faults.{Builds};
 
 use super::{ArrayRef, Layout, make};
-use crate::ctx::ExecutionCtx;
-use crate::fault::Res;
-use crate::scalar::Scalar;
+use coltypes::{ExecutionCtx, Res, Scalar};
 
 /// The layout of one scalar in each row.
 pub struct ConstantArray;

@@ -2,9 +2,7 @@ ghost use Rattle.std.specs.Prelude.{◌≡◌};
 ghost use Rattle.colbase.specs.Faults.{BuildsExtension};
 
 use super::{ArrayRef, Layout, make};
-use crate::ctx::ExecutionCtx;
-use crate::dtype::{DType, ExtDType};
-use crate::fault::{Fault, LayoutFault, Res};
+use coltypes::{DType, ExecutionCtx, ExtDType, Fault, LayoutFault, Res};
 
 /// The layout of a named type over an array of its storage type.
 pub struct ExtensionArray;

@@ -2,16 +2,14 @@
 ghost use Rattle.std.specs.Prelude.{◌≡◌, length, IfOk, IfErr};
 ghost use Rattle.colbase.specs.ArrayOf.{array_of};
 ghost use Rattle.colbase.specs.Arrays.{MustRead, Sound, dtype, len, payload, rows};
-ghost use Rattle.colbase.specs.Cell.{Cell};
-ghost use Rattle.colbase.specs.Keep.{Filters, Selects, keep, trues};
-ghost use Rattle.colbase.specs.Masks.{mask_bits};
+ghost use Rattle.coltypes.specs.Cell.{Cell};
+ghost use Rattle.colbase.specs.Selects.{Filters, Selects};
+ghost use Rattle.coltypes.specs.Keep.{keep, trues};
+ghost use Rattle.coltypes.specs.Masks.{mask_bits};
 
 use super::{ArrayRef, Layout, make};
-use crate::ctx::ExecutionCtx;
-use crate::fault::{Fault, Res};
-use crate::filter::filter_bits;
-use crate::mask::Mask;
 use bitlane::BitBuffer;
+use coltypes::{ExecutionCtx, Fault, Mask, Res, filter_bits};
 
 impl ArrayRef {
     /// The rows that the mask selects, in their order and in the array's type. Under `AllTrue` it is another owner of the

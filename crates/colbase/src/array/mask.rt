@@ -4,19 +4,15 @@ ghost use Rattle.bitlane.specs.Bits.{tabulate};
 ghost use Rattle.colbase.specs.ArrayOf.{array_of};
 ghost use Rattle.colbase.specs.Arrays.{Sound, bool, constant, dtype, len, masked, payload, primitive, row, rows};
 ghost use Rattle.colbase.specs.Hides.{Hides, Retypes, shown_row};
-ghost use Rattle.colbase.specs.LogicalType.{with_nullability};
-ghost use Rattle.colbase.specs.LogicalTypeOf.{extension_type, logical_type};
-ghost use Rattle.colbase.specs.Valid.{Covers, validity_and};
-ghost use Rattle.colbase.specs.Values.{count};
+ghost use Rattle.coltypes.specs.LogicalType.{with_nullability};
+ghost use Rattle.coltypes.specs.LogicalTypeOf.{extension_type, logical_type};
+ghost use Rattle.coltypes.specs.Valid.{Covers, validity_and};
+ghost use Rattle.coltypes.specs.Values.{count};
 
 use super::masked::masked_dtype;
 use super::{ArrayRef, Layout, make};
-use crate::ctx::ExecutionCtx;
-use crate::dtype::{DType, ExtDType, Nullability};
-use crate::fault::{Fault, Res};
-use crate::validity::Validity;
-use crate::values::PrimitiveValues;
 use bitlane::BitBuffer;
+use coltypes::{DType, ExecutionCtx, ExtDType, Fault, Nullability, PrimitiveValues, Res, Validity};
 
 impl ArrayRef {
     /// The array with its row null too wherever `valid` is false. The payload stays whole, and the type is made nullable.

@@ -1,13 +1,11 @@
 ghost use Rattle.std.specs.Prelude.{◌≡◌, IfOk, IfErr};
 ghost use Rattle.colbase.specs.Arrays.{masked, masked_type, len};
-ghost use Rattle.colbase.specs.Faults.{Builds, first_of, length_check, null_check};
-ghost use Rattle.colbase.specs.LogicalTypeOf.{logical_type};
+ghost use Rattle.colbase.specs.Faults.{Builds, null_check};
+ghost use Rattle.coltypes.specs.Checks.{first_of, length_check};
+ghost use Rattle.coltypes.specs.LogicalTypeOf.{logical_type};
 
 use super::{ArrayRef, Layout, make};
-use crate::ctx::ExecutionCtx;
-use crate::dtype::{DType, Nullability};
-use crate::fault::{Fault, LayoutFault, Res};
-use crate::validity::Validity;
+use coltypes::{DType, ExecutionCtx, Fault, LayoutFault, Nullability, Res, Validity};
 
 /// The layout of an array whose rows are null where a validity says so. The child has no null of its own, though its
 /// type may be nullable.

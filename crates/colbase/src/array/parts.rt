@@ -4,9 +4,8 @@ ghost use Rattle.std.specs.Option.{option_copied};
 ghost use Rattle.colbase.specs.Parts.{bits_of, child_of, scalar_of, storage_of, values_of};
 
 use super::{ArrayRef, Layout};
-use crate::scalar::Scalar;
-use crate::values::PrimitiveValues;
 use bitlane::BitBuffer;
+use coltypes::{PrimitiveValues, Scalar};
 
 impl ArrayRef {
     /// The scalar of a constant array.

@@ -1,14 +1,11 @@
 ghost use Rattle.std.specs.Prelude.{◌≡◌, length};
 ghost use Rattle.colbase.specs.Arrays.{primitive};
-ghost use Rattle.colbase.specs.Faults.{Builds, length_check};
+ghost use Rattle.colbase.specs.Faults.{Builds};
+ghost use Rattle.coltypes.specs.Checks.{length_check};
 
 use super::{ArrayRef, Layout, make};
-use crate::buffer::Buffer;
-use crate::ctx::ExecutionCtx;
-use crate::dtype::DType;
-use crate::fault::{Fault, Res};
 use crate::native::NativeInt;
-use crate::validity::Validity;
+use coltypes::{Buffer, DType, ExecutionCtx, Fault, Res, Validity};
 
 /// The layout of numbers with a validity.
 pub struct PrimitiveArray;

@@ -3,12 +3,11 @@ ghost use Rattle.std.specs.Prelude.{◌≡◌, ◌<◌, ℕ, is_some};
 ghost use Rattle.colbase.specs.Arrays.{dtype, len, row};
 ghost use Rattle.colbase.specs.Faults.{lowest, null_at};
 ghost use Rattle.colbase.specs.Parts.{own_validity};
-ghost use Rattle.colbase.specs.LogicalType.{nullability_of};
-ghost use Rattle.colbase.specs.Valid.{Covers, valid_at, validity_kind, validity_nullability};
+ghost use Rattle.coltypes.specs.LogicalType.{nullability_of};
+ghost use Rattle.coltypes.specs.Valid.{Covers, valid_at, validity_kind, validity_nullability};
 
 use super::{ArrayRef, Layout};
-use crate::dtype::Nullability;
-use crate::validity::{Validity, ValidityKind};
+use coltypes::{Nullability, Validity, ValidityKind};
 
 impl ArrayRef {
     /// Whether the row at `index` is not null.

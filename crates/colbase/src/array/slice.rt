@@ -2,12 +2,11 @@
 ghost use Rattle.std.specs.Prelude.{◌≡◌, ◌≤◌, IfOk, IfErr, slice_range};
 ghost use Rattle.colbase.specs.Arrays.{dtype, len, rows, payload, MustRead};
 ghost use Rattle.colbase.specs.ArrayOf.{array_of};
-ghost use Rattle.colbase.specs.Cell.{Cell};
+ghost use Rattle.coltypes.specs.Cell.{Cell};
 ghost use Rattle.colbase.specs.Cut.{cut};
 
 use super::{ArrayRef, Layout, make};
-use crate::ctx::ExecutionCtx;
-use crate::fault::{Fault, Res};
+use coltypes::{ExecutionCtx, Fault, Res};
 
 impl ArrayRef {
     /// The rows from `start` to below `end`, in the array's type. Copies no row.

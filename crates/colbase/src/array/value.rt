@@ -1,14 +1,12 @@
 // A row as a scalar.
 ghost use Rattle.std.specs.Prelude.{◌≡◌, ◌<◌, IfOk, IfErr, IsTrue, option_map};
 ghost use Rattle.colbase.specs.Arrays.{dtype, len, row};
-ghost use Rattle.colbase.specs.CellOf.{cell_of};
-ghost use Rattle.colbase.specs.Fits.{fits_type};
-ghost use Rattle.colbase.specs.Scalars.{scalar_cell, scalar_type};
+ghost use Rattle.coltypes.specs.CellOf.{cell_of};
+ghost use Rattle.coltypes.specs.Fits.{fits_type};
+ghost use Rattle.coltypes.specs.Scalars.{scalar_cell, scalar_type};
 
 use super::{ArrayRef, Layout};
-use crate::ctx::ExecutionCtx;
-use crate::fault::{Fault, Res};
-use crate::scalar::{Scalar, ScalarValue};
+use coltypes::{ExecutionCtx, Fault, Res, Scalar, ScalarValue};
 
 impl ArrayRef {
     /// The row at `index` as a scalar of the array's type. Text that is not UTF-8 is given as its bytes too.

@@ -1,6 +1,6 @@
 use Rattle.std.proofs.Common.{◌∙◌, ap, sym}
 use Rattle.colbase.specs.Arrays.{dtype, len}
-use Rattle.colbase.specs.LogicalTypeOf.{logical_type}
+use Rattle.coltypes.specs.LogicalTypeOf.{logical_type}
 use Rattle.colbase.proofs.Cut.{sound_cut, dtype_cut, len_cut}
 use Rattle.colbase.proofs.array.ArrayRef.+cut.Goals as goal
 

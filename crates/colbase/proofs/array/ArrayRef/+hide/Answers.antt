@@ -1,9 +1,9 @@
 use Rattle.std.proofs.Common.{◌≡◌, ◌∙◌, ap, sym, subst}
-use Rattle.colbase.specs.declared.validity.Validity.TheVariants as v
+use Rattle.coltypes.specs.declared.validity.Validity.TheVariants as v
 use Rattle.colbase.specs.ArrayOf.{array_of}
 use Rattle.colbase.specs.Arrays.{Array, Sound, bool, constant, masked, primitive}
 use Rattle.colbase.specs.Hides.{Hides}
-use Rattle.colbase.specs.Valid.{validity_and}
+use Rattle.coltypes.specs.Valid.{validity_and}
 use Rattle.colbase.proofs.HiddenRows.{hides_bool, hides_masked, hides_null, hides_primitive, hides_same}
 use Rattle.colbase.proofs.Results.{if_ok-map}
 use Rattle.colbase.proofs.array.ArrayRef.+hide.Goals as goal

@@ -3,7 +3,7 @@ use Rattle.colbase.specs.ArrayOf.{array_of}
 use Rattle.colbase.specs.Arrays.{bool, dtype, extension, masked, primitive}
 use Rattle.colbase.specs.Casts.{NoNull}
 use Rattle.colbase.specs.Hides.{Retypes}
-use Rattle.colbase.specs.LogicalType.{nullability_of, with_nullability}
+use Rattle.coltypes.specs.LogicalType.{nullability_of, with_nullability}
 use Rattle.colbase.proofs.Casting.{retypes_at, retypes_child, retypes_same}
 use Rattle.colbase.proofs.Results.{if_ok-map}
 use Rattle.colbase.proofs.array.ArrayRef.+retype.Goals as goal

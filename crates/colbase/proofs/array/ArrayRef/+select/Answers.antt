@@ -1,7 +1,7 @@
 use Rattle.std.proofs.Common.{◌≡◌, ◌∙◌, ap, sym, subst}
 use Rattle.colbase.specs.ArrayOf.{array_of}
 use Rattle.colbase.specs.Arrays.{Sound, bool, len, masked, primitive}
-use Rattle.colbase.specs.Keep.{keep, keep_validity, keep_values}
+use Rattle.coltypes.specs.Keep.{keep, keep_validity, keep_values}
 use Rattle.colbase.proofs.KeptRows.{selects_bool, selects_masked, selects_primitive, selects_same, sound_bool, sound_masked, sound_primitive}
 use Rattle.colbase.proofs.array.ArrayRef.+select.Goals as goal
 

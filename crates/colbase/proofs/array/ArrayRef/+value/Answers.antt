@@ -1,11 +1,11 @@
 use Rattle.std.proofs.Common.{◌≡◌, ◌∙◌, Option, ap, sym}
 use Rattle.std.specs.Prelude.{IsTrue, option_map}
-use Rattle.colbase.specs.declared.scalar.ScalarValue.{ScalarValue}
+use Rattle.coltypes.specs.declared.scalar.ScalarValue.{ScalarValue}
 use Rattle.colbase.specs.Arrays.{dtype, masked}
 use Rattle.colbase.specs.ArrayOf.{array_of}
-use Rattle.colbase.specs.CellOf.{cell_of}
-use Rattle.colbase.specs.Fits.{fits_type, is_nullable}
-use Rattle.colbase.specs.LogicalType.{nullability_of}
+use Rattle.coltypes.specs.CellOf.{cell_of}
+use Rattle.coltypes.specs.Fits.{fits_type, is_nullable}
+use Rattle.coltypes.specs.LogicalType.{nullability_of}
 use Rattle.colbase.proofs.Nullable.{masked_fits, masked_null}
 use Rattle.colbase.proofs.Results.{if_ok-map}
 use Rattle.colbase.proofs.array.ArrayRef.+value.Goals as goal

@@ -1,5 +1,5 @@
 use Rattle.std.proofs.Common.{◌∙◌, ap, sym}
-use Rattle.colbase.specs.LogicalType.{nullability_of, with_nullability}
+use Rattle.coltypes.specs.LogicalType.{nullability_of, with_nullability}
 use Rattle.colbase.proofs.Casting.{casts_retyped, passes}
 use Rattle.colbase.proofs.array.ArrayRef.cast.Goals as goal
 

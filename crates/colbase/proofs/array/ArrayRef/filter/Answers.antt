@@ -1,8 +1,9 @@
 use Rattle.std.proofs.Common.{◌≡◌}
 use Rattle.colbase.specs.Arrays.{MustRead, dtype, payload, rows}
-use Rattle.colbase.specs.Cell.{Cell}
-use Rattle.colbase.specs.Keep.{Filters, keep}
-use Rattle.colbase.specs.Masks.{mask_bits}
+use Rattle.coltypes.specs.Cell.{Cell}
+use Rattle.colbase.specs.Selects.{Filters}
+use Rattle.coltypes.specs.Keep.{keep}
+use Rattle.coltypes.specs.Masks.{mask_bits}
 use Rattle.colbase.proofs.Results.{if_ok-map}
 use Rattle.colbase.proofs.array.ArrayRef.filter.Goals as goal
 

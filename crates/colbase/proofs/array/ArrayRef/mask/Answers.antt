@@ -1,9 +1,9 @@
 use Rattle.std.proofs.Common.{◌≡◌}
 use Rattle.bitlane.specs.Bits.{tabulate}
-use Rattle.colbase.specs.declared.dtype.Nullability.TheVariants.{Nullable}
+use Rattle.coltypes.specs.declared.dtype.Nullability.TheVariants.{Nullable}
 use Rattle.colbase.specs.Arrays.{dtype, len, payload, row, rows}
 use Rattle.colbase.specs.Hides.{Hides, shown_row}
-use Rattle.colbase.specs.LogicalType.{with_nullability}
+use Rattle.coltypes.specs.LogicalType.{with_nullability}
 use Rattle.colbase.proofs.HiddenRows.{rows_hidden, payload_hidden}
 use Rattle.colbase.proofs.Results.{if_ok-map}
 use Rattle.colbase.proofs.array.ArrayRef.mask.Goals as goal

@@ -2,7 +2,7 @@ use Rattle.std.proofs.Common.{◌≡◌, ◌∙◌, ap, slice_range, subst}
 use Rattle.colbase.proofs.Cut.{rows_cut, dtype_cut, payload_cut, must_read_cut}
 use Rattle.colbase.proofs.Results.{if_ok-map}
 use Rattle.colbase.specs.Arrays.{Array, dtype, rows, payload, MustRead}
-use Rattle.colbase.specs.Cell.{Cell}
+use Rattle.coltypes.specs.Cell.{Cell}
 use Rattle.colbase.specs.Cut.{cut}
 use Rattle.colbase.proofs.array.ArrayRef.slice.Goals as goal
 

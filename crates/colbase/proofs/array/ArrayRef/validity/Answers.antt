@@ -1,7 +1,7 @@
 use Rattle.std.proofs.Common.{◌∙◌, ap, subst, sym}
 use Rattle.colbase.specs.Arrays.{len}
-use Rattle.colbase.specs.declared.validity.Validity.{Validity}
-use Rattle.colbase.specs.Valid.{Covers, valid_at, validity_nullability}
+use Rattle.coltypes.specs.declared.validity.Validity.{Validity}
+use Rattle.coltypes.specs.Valid.{Covers, valid_at, validity_nullability}
 use Rattle.colbase.proofs.OwnValidity.{nullable_type, own_covers}
 use Rattle.colbase.proofs.Rows.{valid_rows}
 use Rattle.colbase.proofs.array.ArrayRef.validity.Goals as goal

@@ -1,10 +1,10 @@
 use Rattle.std.proofs.Common.{◌≡◌, ◌∙◌, ap, arith}
 use Rattle.std.specs.Prelude.{IsSome, option_map}
 use Rattle.std.proofs.lemmas.Bool.Decides.{nat_tests}
-use Rattle.colbase.specs.declared.dtype.Nullability.TheVariants.{NonNullable}
-use Rattle.colbase.specs.CellOf.{cell_of}
-use Rattle.colbase.specs.LogicalType.{with_nullability}
-use Rattle.colbase.specs.LogicalTypeOf.{logical_type}
+use Rattle.coltypes.specs.declared.dtype.Nullability.TheVariants.{NonNullable}
+use Rattle.coltypes.specs.CellOf.{cell_of}
+use Rattle.coltypes.specs.LogicalType.{with_nullability}
+use Rattle.coltypes.specs.LogicalTypeOf.{logical_type}
 use Rattle.colbase.proofs.Casting.{value_fits, value_there}
 use Rattle.colbase.proofs.array.cast.retype_constant.Goals.{else-rows-eq0-via-then-rows-eq0+else-is_null, else-rows-eq0-via-else-rows-eq0}
 use Rattle.colbase.proofs.array.cast.retype_constant.Goals as goal

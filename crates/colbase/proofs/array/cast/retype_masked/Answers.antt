@@ -1,8 +1,8 @@
 use Rattle.std.proofs.Common.{◌≡◌}
-use Rattle.colbase.specs.declared.dtype.Nullability.TheVariants.{Nullable}
+use Rattle.coltypes.specs.declared.dtype.Nullability.TheVariants.{Nullable}
 use Rattle.colbase.specs.Arrays.{Array, dtype, masked}
 use Rattle.colbase.specs.Hides.{Retypes}
-use Rattle.colbase.specs.LogicalType.{with_nullability}
+use Rattle.coltypes.specs.LogicalType.{with_nullability}
 use Rattle.colbase.proofs.Casting.{retypes_mask}
 use Rattle.colbase.proofs.Results.{if_ok-map}
 use Rattle.colbase.proofs.array.cast.retype_masked.Goals as goal

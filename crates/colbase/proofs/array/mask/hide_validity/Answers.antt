@@ -1,7 +1,7 @@
 use Rattle.std.proofs.Common.{◌≡◌, ◌∙◌, length, ap, sym, subst}
-use Rattle.colbase.specs.declared.validity.Validity.{Validity}
-use Rattle.colbase.specs.declared.validity.Validity.TheVariants.{Array}
-use Rattle.colbase.specs.Valid.{Covers, validity_and}
+use Rattle.coltypes.specs.declared.validity.Validity.{Validity}
+use Rattle.coltypes.specs.declared.validity.Validity.TheVariants.{Array}
+use Rattle.coltypes.specs.Valid.{Covers, validity_and}
 use Rattle.colbase.proofs.HiddenRows.{covers_and}
 use Rattle.colbase.proofs.Results.{if_ok-map}
 use Rattle.colbase.proofs.array.mask.hide_validity.Goals as goal

@@ -1,6 +1,0 @@
-use Rattle.std.proofs.Common.{◌∙◌}
-use Rattle.colbase.proofs.Scalars.{list_cell}
-use Rattle.colbase.proofs.scalar.lists.list_value.Goals as goal
-
-pub returns-clause-made : goal.returns-clause-made
-returns-clause-made c = list_cell c.args.scalars.now c.in_ok-new.field-0 (c.in_ok-new.ensures ∙ c.from_vec-items.ensures ∙ c.in_ok-shared_values.ensures)

@@ -1,0 +1,4 @@
+pub mod EqualCells
+pub mod Masks
+pub mod Picked
+pub mod Scalars

@@ -1,0 +1,12 @@
+use Rattle.std.proofs.Common.{◌≡◌, ◌++◌, length}
+use Rattle.coltypes.specs.Keep.{keep}
+use Rattle.coltypes.proofs.Picked.{EachBelow, picked}
+use Rattle.coltypes.proofs.filter.selected_bits.Given as goal
+
+abbrev pub invariant-loop-index : goal.invariant-loop-index
+invariant-loop-index l = record {
+  goes : goal.iterator-loop-index.can_next l.index-iterator;
+  ends : goal.iterator-loop-index.is_finite l.index-iterator;
+  within : EachBelow (length l.values) l.index-iterator;
+  kept : l.kept.items ++ picked l.values l.index-iterator ≡ keep l.bits l.values;
+}

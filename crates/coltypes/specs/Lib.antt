@@ -1,0 +1,15 @@
+pub mod Cell
+pub mod LogicalType
+pub mod LogicalTypeOf
+pub mod CellOf
+pub mod Fits
+pub mod Valid
+pub mod Values
+pub mod Views
+pub mod Scalars
+pub mod Masks
+pub mod Checks
+pub mod Cut
+pub mod Keep
+pub mod Equal
+pub mod EqualLaws
