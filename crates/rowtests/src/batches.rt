@@ -1,9 +1,7 @@
 // Worked batches, with the calls that the callback counts where it does.
 use crate::columns::{all_but, answers, bytes, numbers, took, two};
 use bitlane::BitBuffer;
-use colbase::{
-    ArrayRef, EmptyOptions, ExecutionArgs, ExecutionCtx, ScalarValue, Validity,
-};
+use colbase::{ArrayRef, EmptyOptions, ExecutionArgs, ExecutionCtx, ScalarValue, Validity};
 use rowcases::Seven;
 use rowexec::execute_rows_counted;
 use rowsample::{CheckedAdd, Rescale, WrappingAdd};
@@ -92,7 +90,12 @@ fn ten_rows_with_nulls_on_both_sides(rt: HostRuntime) -> Result<(), Fail> {
     let ctx = ExecutionCtx::new(rt.alloc());
     let lhs = [0, 37, 74, i64::MAX, 148, 185, 222, 259, i64::MAX, 333];
     let rhs = [0, 1, 1, 3, 4, 5, 6, 7, 8, 1];
-    let args = two(generated(&lhs, 5, 3, ctx)?, generated(&rhs, 7, 2, ctx)?, 10, ctx)?;
+    let args = two(
+        generated(&lhs, 5, 3, ctx)?,
+        generated(&rhs, 7, 2, ctx)?,
+        10,
+        ctx,
+    )?;
     let told = execute_rows_counted(&CheckedAdd, &EmptyOptions, &args, ctx);
     assert!(rt; took(&told, 2, 16));
     assert!(rt; sums_to(&told.answer?, 874, 4, ctx)?);

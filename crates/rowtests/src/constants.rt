@@ -3,8 +3,8 @@ use crate::columns::{
     answers, constant, constant_byte, is_constant, masked, no_row, nulls, numbers, one, took, two,
 };
 use colbase::{
-    ArrayRef, ConstantArray, DType, EmptyOptions, ExecutionCtx, ExtDType, ExtensionArray, MaskedArray,
-    Nullability, PType, Scalar, TimeUnit, Validity,
+    ArrayRef, ConstantArray, DType, EmptyOptions, ExecutionCtx, ExtDType, ExtensionArray,
+    MaskedArray, Nullability, PType, Scalar, TimeUnit, Validity,
 };
 use rowcases::Flags;
 use rowexec::{Counted, execute_rows, execute_rows_counted};

@@ -1,7 +1,9 @@
 // The plans of row functions: each visit is planned at a concrete type.
 ghost use Rattle.std.specs.Prelude.{◌≡◌, length};
 
-use colbase::{DType, EmptyOptions, ExecutionCtx, ExtDType, Fault, Nullability, PType, Res, TimeUnit};
+use colbase::{
+    DType, EmptyOptions, ExecutionCtx, ExtDType, Fault, Nullability, PType, Res, TimeUnit,
+};
 use rowcases::{Deferral, Labelled, Ordered, Picky, Scales, Seven, Small, SumPrepared};
 use rowplan::{BatchPlan, BatchPlanner, RowFn, RowPolicy};
 use rowsample::{Truncate, TruncateOptions};
@@ -26,7 +28,12 @@ fn planned<F: RowFn>(
 
 #[test]
 fn a_plain_visit(rt: HostRuntime) -> Result<(), Fail> {
-    let plan = planned(&Seven::new(), &EmptyOptions, &[], ExecutionCtx::new(rt.alloc()))?;
+    let plan = planned(
+        &Seven::new(),
+        &EmptyOptions,
+        &[],
+        ExecutionCtx::new(rt.alloc()),
+    )?;
     assert!(rt; plan.policy() == RowPolicy::Dense);
     Ok(())
 }
@@ -35,7 +42,12 @@ fn a_plain_visit(rt: HostRuntime) -> Result<(), Fail> {
 fn a_prepared_visit(rt: HostRuntime) -> Result<(), Fail> {
     let types = [full(PType::I64), full(PType::I64)];
     let function = SumPrepared::new();
-    let plan = planned(&function, &EmptyOptions, &types, ExecutionCtx::new(rt.alloc()))?;
+    let plan = planned(
+        &function,
+        &EmptyOptions,
+        &types,
+        ExecutionCtx::new(rt.alloc()),
+    )?;
     assert!(rt; plan.policy() == RowPolicy::Dense);
     assert!(rt; function.seen().is_none());
     Ok(())
@@ -45,7 +57,12 @@ fn a_prepared_visit(rt: HostRuntime) -> Result<(), Fail> {
 fn a_visit_of_truth_values(rt: HostRuntime) -> Result<(), Fail> {
     let types = [full(PType::I64), full(PType::I64)];
     let function = Ordered::new(false);
-    let plan = planned(&function, &EmptyOptions, &types, ExecutionCtx::new(rt.alloc()))?;
+    let plan = planned(
+        &function,
+        &EmptyOptions,
+        &types,
+        ExecutionCtx::new(rt.alloc()),
+    )?;
     assert!(rt; plan.output_dtype() == DType::Bool(Nullability::NonNullable));
     Ok(())
 }
@@ -54,7 +71,12 @@ fn a_visit_of_truth_values(rt: HostRuntime) -> Result<(), Fail> {
 fn a_visit_of_valid_rows(rt: HostRuntime) -> Result<(), Fail> {
     let types = [full(PType::U8), full(PType::U8)];
     let function = Scales::new();
-    let plan = planned(&function, &EmptyOptions, &types, ExecutionCtx::new(rt.alloc()))?;
+    let plan = planned(
+        &function,
+        &EmptyOptions,
+        &types,
+        ExecutionCtx::new(rt.alloc()),
+    )?;
     assert!(rt; plan.policy() == RowPolicy::ValidOnly);
     Ok(())
 }

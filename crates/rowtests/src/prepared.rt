@@ -1,8 +1,6 @@
 // What a prepared visit is given, and how often.
 use crate::columns::{all_but, bytes, constant, nulls, numbers, one, took, two};
-use colbase::{
-    ArrayRef, EmptyOptions, ExecutionArgs, ExecutionCtx, Nullability, Validity,
-};
+use colbase::{ArrayRef, EmptyOptions, ExecutionArgs, ExecutionCtx, Nullability, Validity};
 use rowcases::{Deferral, Small, SumPrepared};
 use rowexec::{execute_rows, execute_rows_counted};
 use std::test::Fail;

@@ -1,6 +1,8 @@
 // A row function as a scalar function of an engine, and the engine that counts its calls.
 use crate::columns::{all_but, has_rows, numbers, two};
-use colbase::{DType, EmptyOptions, ExecutionArgs, ExecutionCtx, Mask, Nullability, PType, Validity};
+use colbase::{
+    DType, EmptyOptions, ExecutionArgs, ExecutionCtx, Mask, Nullability, PType, Validity,
+};
 use rowexec::{CallEngine, RowEngine, RowFnVTable};
 use rowplan::RowFn;
 use rowsample::WrappingAdd;
@@ -59,6 +61,9 @@ fn states_its_type(rt: HostRuntime) -> Result<(), Fail> {
 fn tells_its_names(rt: HostRuntime) {
     let function = RowFnVTable(WrappingAdd);
     assert_eq!(rt; WrappingAdd.id(), "wrapping_add");
-    assert_eq!(rt; [function.child_name(0), function.child_name(1)], ["lhs", "rhs"]);
+    assert_eq!(rt;
+        [function.child_name(0), function.child_name(1)],
+        ["lhs", "rhs"]
+    );
     assert!(rt; function.arity() == 2 && function.is_strict() && function.is_infallible());
 }

@@ -7,9 +7,7 @@ use super::execute::known_values;
 use crate::visitor::Visited;
 use bitlane::BitBuffer;
 use colbase::{ArrayRef, DType, ExecutionCtx, Fault, Res, RowError};
-use rowloops::{
-    accepted_values, execute_owned_infallible_valid_rows, execute_owned_valid_rows,
-};
+use rowloops::{accepted_values, execute_owned_infallible_valid_rows, execute_owned_valid_rows};
 use rowplan::{RowSpec, RowVisitor};
 use rowtypes::{IndexedElementTuple, OutputElement};
 use std::alloc::AllocError;
