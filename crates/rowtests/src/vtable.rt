@@ -59,11 +59,7 @@ fn states_its_type(rt: HostRuntime) -> Result<(), Fail> {
 // No clause says the texts.
 #[test]
 fn tells_its_names(rt: HostRuntime) {
-    let function = RowFnVTable(WrappingAdd);
     assert_eq!(rt; WrappingAdd.id(), "wrapping_add");
-    assert_eq!(rt;
-        [function.child_name(0), function.child_name(1)],
-        ["lhs", "rhs"]
-    );
-    assert!(rt; function.arity() == 2 && function.is_strict() && function.is_infallible());
+    assert_eq!(rt; RowFnVTable(WrappingAdd).child_name(0), "lhs");
+    assert_eq!(rt; RowFnVTable(WrappingAdd).child_name(1), "rhs");
 }
