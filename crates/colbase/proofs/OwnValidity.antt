@@ -1,5 +1,5 @@
 -- The validity that an array has of its own: it covers the rows, and where it may hold nulls the type is nullable.
-use Rattle.std.proofs.Common.{◌≡◌, ◌∙◌, ℕ, Bool, true, Option, Some, None, refl, ap, sym}
+use Rattle.std.proofs.Common.{◌≡◌, ◌∙◌, ℕ, true, Option, Some, None, refl, ap}
 use Rattle.coltypes.specs.declared.binary.BinaryKind.{BinaryKind}
 use Rattle.coltypes.specs.declared.binary.BinaryKind.TheVariants.{Utf8, Binary}
 use Rattle.coltypes.specs.declared.dtype.Nullability.{Nullability}

@@ -50,8 +50,8 @@ impl Scalar {
         Ok(Scalar::made(dtype, Some(value)))
     }
 
-    // The optional value, in an owner of its own.
-    pub(crate) fn share_value(&self) -> Option<ScalarValue>
+    /// The optional value, in an owner of its own.
+    pub fn share_value(&self) -> Option<ScalarValue>
         ensures { result ≡ self.now.value }
     {
         match &self.value {
