@@ -1,11 +1,3 @@
-pub mod Shown
-pub mod Unmasked
-pub mod Reading
-pub mod Elements
-pub mod Scales
-pub mod Outputs
-pub mod Places
-pub mod Filled
 pub mod Rows
 pub mod Arguments
 pub mod SideBySide

@@ -3,7 +3,7 @@ ghost use Rattle.std.specs.Prelude.{◌≡◌, ◌<◌, ℕ, true};
 
 use crate::both::Both;
 use crate::rows_visitor::RowsVisitor;
-use crate::sources::SideBySide;
+use crate::two_sources::SideBySide;
 use crate::tuple::{ElementTuple, IndexedElementTuple};
 use bitlane::IndexedSource;
 use std::marker::PhantomData;

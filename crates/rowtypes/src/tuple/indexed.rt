@@ -3,9 +3,8 @@ ghost use Rattle.std.specs.Prelude.{◌≡◌, ◌<◌, ℕ, true};
 use super::ElementTuple;
 use super::beside::Beside;
 use super::flat::{Alone, Four, NoArguments, Three, Two};
-use crate::arg_column::ArgColumn;
-use crate::element::InputElement;
 use crate::rows_visitor::RowsVisitor;
+use rowelems::{ArgColumn, InputElement};
 
 /// Tuples whose rows are read by their index.
 pub trait IndexedElementTuple: ElementTuple {

@@ -1,0 +1,6 @@
+pub mod Shown
+pub mod Unmasked
+pub mod Reading
+pub mod Elements
+pub mod Scales
+pub mod Argument
