@@ -120,11 +120,7 @@ fn scalar_number(
 }
 
 /// Appends a line for each row, each read as a scalar.
-fn push_scalars(
-    out: &mut Vec<u8>,
-    array: &ArrayRef,
-    ctx: ExecutionCtx,
-) -> Result<(), AllocError>
+fn push_scalars(out: &mut Vec<u8>, array: &ArrayRef, ctx: ExecutionCtx) -> Result<(), AllocError>
     requires { is_printed (dtype array.now) ≡ true }
     ensures { OnOk result (out.new.items ≡ out.old.items ++ flat_map (λ cell. line (cell_text (dtype array.now) cell)) (rows array.now)) }
 {

@@ -48,8 +48,17 @@ pub(crate) fn ends_with(
 ) -> Result<bool, Fail> {
     let words = given(alloc, words)?;
     let bytes = input.as_bytes().to_vec(alloc)?;
-    let mut source = MemorySource::new(bytes, outside.source_piece, one(alloc, outside.source_fails)?);
-    let mut sink = MemorySink::new(alloc, 99, outside.sink_piece, one(alloc, outside.sink_fails)?)?;
+    let mut source = MemorySource::new(
+        bytes,
+        outside.source_piece,
+        one(alloc, outside.source_fails)?,
+    );
+    let mut sink = MemorySink::new(
+        alloc,
+        99,
+        outside.sink_piece,
+        one(alloc, outside.sink_fails)?,
+    )?;
     let ended = run(
         alloc,
         &words,
@@ -73,7 +82,12 @@ fn pieces_of_one_byte_make_no_difference(rt: HostRuntime) -> Result<(), Fail> {
 }
 
 /// The status of a call over this input, by this engine.
-fn status_by(alloc: Global, engine: &mut CallEngine, words: &[&str], input: &str) -> Result<u8, Fail> {
+fn status_by(
+    alloc: Global,
+    engine: &mut CallEngine,
+    words: &[&str],
+    input: &str,
+) -> Result<u8, Fail> {
     let words = given(alloc, words)?;
     let mut source = SteadySource::new(input.as_bytes().to_vec(alloc)?);
     Ok(run(alloc, &words, engine, &mut source, &mut NullSink))
@@ -83,7 +97,10 @@ fn status_by(alloc: Global, engine: &mut CallEngine, words: &[&str], input: &str
 fn a_batch_is_one_call(rt: HostRuntime) -> Result<(), Fail> {
     let mut engine = CallEngine::new();
     for (input, status, calls) in [(THREE, 0, 1), ("{}", 8, 1), ("", 2, 1), (THREE, 0, 2)] {
-        assert_eq!(rt; status_by(rt.alloc(), &mut engine, &["run"], input)?, status);
+        assert_eq!(rt;
+            status_by(rt.alloc(), &mut engine, &["run"], input)?,
+            status
+        );
         assert_eq!(rt; engine.calls(), calls);
     }
     Ok(())
@@ -92,7 +109,10 @@ fn a_batch_is_one_call(rt: HostRuntime) -> Result<(), Fail> {
 #[test]
 fn the_most_rows_are_one_call(rt: HostRuntime) -> Result<(), Fail> {
     let mut engine = CallEngine::new();
-    assert_eq!(rt; status_by(rt.alloc(), &mut engine, &["gen", "1000000"], "")?, 0);
+    assert_eq!(rt;
+        status_by(rt.alloc(), &mut engine, &["gen", "1000000"], "")?,
+        0
+    );
     assert_eq!(rt; engine.calls(), 1);
     Ok(())
 }

@@ -12,8 +12,15 @@ fn each_failing_read_ends_the_call(rt: HostRuntime) -> Result<(), Fail> {
             sink_piece: 99,
             sink_fails: 0,
         };
-        let (status, text) = if call <= 12 { (5, "read\n") } else { (0, THREE_SUMS) };
-        assert!(rt; ends_with(rt.alloc(), &["run"], THREE, &outside, status, text)?, "at call {call}");
+        let (status, text) = if call <= 12 {
+            (5, "read\n")
+        } else {
+            (0, THREE_SUMS)
+        };
+        assert!(rt;
+            ends_with(rt.alloc(), &["run"], THREE, &outside, status, text)?,
+            "at call {call}"
+        );
     }
     Ok(())
 }
@@ -33,7 +40,10 @@ fn each_failing_write_leaves_a_prefix(rt: HostRuntime) -> Result<(), Fail> {
             sink_piece: 4,
             sink_fails: call,
         };
-        assert!(rt; ends_with(rt.alloc(), &["run"], THREE, &outside, status, text)?, "at call {call}");
+        assert!(rt;
+            ends_with(rt.alloc(), &["run"], THREE, &outside, status, text)?,
+            "at call {call}"
+        );
     }
     Ok(())
 }
@@ -58,6 +68,15 @@ fn a_failing_source_is_not_read(rt: HostRuntime) -> Result<(), Fail> {
         sink_piece: 99,
         sink_fails: 0,
     };
-    assert!(rt; ends_with(rt.alloc(), &["gen", "1"], "", &outside, 0, "rows 1\nnulls 0\nsum 0\n")?);
+    assert!(rt;
+        ends_with(
+            rt.alloc(),
+            &["gen", "1"],
+            "",
+            &outside,
+            0,
+            "rows 1\nnulls 0\nsum 0\n"
+        )?
+    );
     Ok(())
 }
