@@ -1,4 +1,5 @@
--- What the elements of truth values, of integers and of scales show.
+-- What the elements of truth values, of integers and of scales show at each row: each differs in its own cell, which
+-- stands for nulls.
 use Rattle.std.specs.Prelude.{ℕ, pos, false}
 use Rattle.coltypes.specs.Cell.{Cell, truth, number}
 use Rattle.colbase.specs.Arrays.{Array}

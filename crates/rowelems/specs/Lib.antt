@@ -1,3 +1,4 @@
+-- What input elements and argument columns read and show.
 pub mod Shown
 pub mod Unmasked
 pub mod Reading

@@ -1,4 +1,4 @@
--- Which cells an element reads, and why a column can't be decoded.
+-- Which types an element accepts, which cells it reads, and why a column can't be decoded.
 use Rattle.std.specs.Prelude.{◌≡◌, ◌≤◌, ℕ, Bool, IsTrue, true, false, ◌&&◌, ⊤, ◌⊎◌, List, Option, Some, None, Result, Ok, Err, if◌then◌else◌, pos, bytes_eq, codes}
 use Rattle.coltypes.specs.declared.dtype.PType.{PType}
 use Rattle.coltypes.specs.declared.dtype.PType.TheVariants as p

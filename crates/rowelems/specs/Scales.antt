@@ -1,4 +1,4 @@
--- Lists of numbers that are read as scales, at some places.
+-- Lists of numbers of which only some places are read as scales: the others may hold any number.
 use Rattle.std.specs.Prelude.{◌≡◌, ℕ, ◌<◌, Bool, true, ◌||◌, List, length, is_some, if◌then◌else◌, slice_index_or}
 use Rattle.coltypes.specs.declared.fault.Fault.{Fault}
 use Rattle.coltypes.specs.declared.fault.Fault.TheVariants.{Decode}

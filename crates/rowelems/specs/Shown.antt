@@ -1,4 +1,5 @@
--- What an element shows of an array at each row.
+-- What an element shows of an array at each row. One scheme for all elements, over the element's own cell, and the two
+-- laws that each impl of the trait needs.
 use Rattle.std.proofs.Common.{◌∙◌}
 use Rattle.std.specs.Prelude.{◌≡◌, ℕ, Option, Some, None, nat_lt, if◌then◌else◌, refl}
 use Rattle.coltypes.specs.Cell.{Cell}

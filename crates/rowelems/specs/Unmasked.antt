@@ -1,4 +1,4 @@
--- The array below its masks, and the constant of a batch.
+-- The array below its masks, which has the same payload, and the constant of a batch.
 use Rattle.std.specs.Prelude.{Option, Some, None}
 use Rattle.colbase.specs.Arrays.{Array, constant, masked, extension}
 

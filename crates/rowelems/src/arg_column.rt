@@ -1,8 +1,9 @@
+// Argument columns. Whether an argument is one value for the batch or a column is told once, when it is decoded; a
+// loop over it then runs over a source of the one type or the other.
 ghost use Rattle.std.specs.Prelude.{◌≡◌, ◌<◌, ◌⊎◌, ℕ, Bool, true, IfOk, IfErr, Option};
 ghost use Rattle.colbase.specs.Arrays.{dtype, len, MustRead};
 ghost use Rattle.rowelems.specs.Shown.{batch_value};
-ghost use Rattle.rowelems.specs.Argument.{ArgumentFails, IsWithin, ReadsAll, is_length, length_unless, placed};
-ghost use Rattle.rowelems.specs.Argument.{arg_length, arg_shows, arg_value, known_cell};
+ghost use Rattle.rowelems.specs.Argument.{ArgumentFails, IsWithin, ReadsAll, is_length, length_unless, placed, arg_length, arg_shows, arg_value, known_cell};
 
 use crate::batch::has_batch_value;
 use crate::element::InputElement;

@@ -1,3 +1,5 @@
+// Which array has one value for the whole batch, and the array below each mask. Masks leave the payload alone, so an
+// element that reads the payload reads below them.
 ghost use Rattle.std.specs.Prelude.{◌≡◌, is_some};
 ghost use Rattle.std.specs.Option.{option_copied};
 ghost use Rattle.rowelems.specs.Shown.{batch_value};

@@ -1,3 +1,5 @@
+// The trait of input elements. Its ghost members state what an impl reads and shows; all clauses are stated by them,
+// so that a caller is proved once, for each impl.
 ghost use Rattle.std.specs.Prelude.{◌≡◌, ◌<◌, ℕ, Bool, true, false, Option, Some, None, Ok, Err, IsSome, IfOk, IfErr, IfSome, is_some, length, slice_index_or};
 
 use colbase::{ArrayRef, DType, ExecutionCtx, Res};

@@ -1,3 +1,4 @@
+// The trait of loops over an argument. A method with a type parameter for the source, since a closure can't have one.
 ghost use Rattle.std.specs.Prelude.{◌≡◌, ◌<◌, ℕ};
 
 use bitlane::IndexedSource;

@@ -1,4 +1,5 @@
-// The sources over which loops are run.
+// The sources of an argument: a slice where the values lie side by side, the decoded column else, and one value in
+// each row. Each is a type of its own, so that a loop over it tests nothing.
 ghost use Rattle.std.specs.Prelude.{◌≡◌};
 
 use crate::element::InputElement;

@@ -1,4 +1,4 @@
--- What filling with the default leaves.
+-- What filling with the default leaves. A default is told by a predicate, since a type may have several.
 use Rattle.std.specs.Prelude.{◌≡◌, ℕ, ◌<◌, List, length, slice_index_or}
 
 -- as many items as before, each of them a default

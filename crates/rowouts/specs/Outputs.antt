@@ -1,4 +1,4 @@
--- The columns that outputs finish or build.
+-- The columns that outputs finish or build: no row is null, and each states an answer.
 use Rattle.std.specs.Prelude.{◌≡◌, List, Option, Some, map}
 use Rattle.bitlane.specs.Maps.{MapsTo}
 use Rattle.coltypes.specs.Cell.{Cell}

@@ -1,4 +1,4 @@
--- Places that were written back over as many.
+-- Places that were written back over as many: a law of buffers, which a ghost member cites.
 use Rattle.std.specs.Prelude.{◌≡◌, ℕ, List, ◌++◌, length, take, drop}
 use Rattle.std.proofs.Common.{arith}
 use Rattle.std.proofs.lemmas.Grind.{common_steps}

@@ -1,4 +1,4 @@
-// Filling rows with the default.
+// Setting rows to the default before a loop writes them, and rows that need none since they are written already.
 ghost use Rattle.std.specs.Prelude.{◌≡◌, ◌<◌, ℕ, length, slice_index_or};
 ghost use Rattle.rowouts.specs.Filled.{FilledList};
 

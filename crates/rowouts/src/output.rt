@@ -1,4 +1,5 @@
-// What a row function writes.
+// The traits of outputs, and the buffer of those that are one value a row. `slots` lends the whole buffer, so that a
+// loop writes by index into a slice; `finish` makes the column of the block that was written.
 ghost use Rattle.std.specs.Prelude.{◌≡◌, ◌≤◌, ◌<◌, ℕ, length, map, take, replicate, IfOk, IfErr};
 ghost use Rattle.colbase.specs.Arrays.{dtype, len, row};
 ghost use Rattle.rowouts.specs.Outputs.{StatesAnswer};

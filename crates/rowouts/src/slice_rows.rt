@@ -1,3 +1,5 @@
+// Two views of rows: a slice that is written, and rows that hold their values before they are.
+
 /// Rows in a slice that a loop writes.
 #[derive(Drop)]
 pub struct SliceRows<'a, T>(pub &'a mut [T]);

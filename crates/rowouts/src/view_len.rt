@@ -1,4 +1,4 @@
-// How many rows a view has.
+// How many rows a view has. A tuple of views tells the length of its first, so its parts must be of one length.
 ghost use Rattle.std.specs.Prelude.{◌≡◌, ◌==◌, ℕ, length};
 
 use crate::slice_rows::{Preinitialized, SliceRows};

@@ -5,10 +5,10 @@ use Rattle.std.proofs.lemmas.List.{append-nil}
 use Rattle.rowtext.specs.Bytes.{Takes, IsAtEnd}
 use Rattle.rowtext.specs.declared.command.Command.{Command}
 use Rattle.rowtext.specs.declared.command.Command.TheVariants.{Unknown, WithInput, WithoutInput}
-use Rattle.rowtext.specs.declared.plan.Answer.{Answer}
-use Rattle.rowtext.specs.declared.plan.Plan.{Plan}
-use Rattle.rowtext.specs.declared.plan.Plan.TheVariants.{Usage, Unread, Long, Answered}
-use Rattle.rowtext.specs.Plans.{plan_status}
+use Rattle.rowtext.specs.declared.reply.Answer.{Answer}
+use Rattle.rowtext.specs.declared.reply.Reply.{Reply}
+use Rattle.rowtext.specs.declared.reply.Reply.TheVariants.{Usage, Unread, Long, Answered}
+use Rattle.rowtext.specs.Replies.{reply_status}
 use Rattle.rowtext.specs.Changes.{Change, HasFailed, IsSteady, TookTooMany, TookAll, max_bytes}
 use Rattle.rowtext.specs.Causes.{HasCause, usage, unread, long, of_input, of_words}
 use Rattle.rowtext.specs.Outcomes.{whole, cut, Ends, wrote, memory, WroteWhole, IsAnswer, InputLeads}
@@ -47,33 +47,33 @@ leads_all : (leads : List ℕ → Answer → Type 0) (source : Change) (bytes : 
 leads_all leads source bytes answer told all =
     subst (λ (b : List ℕ). leads b answer) (all_bytes source bytes (λ b. leads b answer) told all) all.4
 
--- Where the sink did not fail, a plan that has its cause was written whole, or memory ran out.
-wrote_whole : {cause : Plan → Type 0} {status : ℕ} {sink : Change} (P : Plan → Type 0) → ((plan : Plan) → cause plan → P plan) → IsSteady sink → Ends cause status sink → WroteWhole P status sink
+-- Where the sink did not fail, a reply that has its cause was written whole, or memory ran out.
+wrote_whole : {cause : Reply → Type 0} {status : ℕ} {sink : Change} (P : Reply → Type 0) → ((reply : Reply) → cause reply → P reply) → IsSteady sink → Ends cause status sink → WroteWhole P status sink
 wrote_whole P so s (memory is kept) = inl (is, kept)
-wrote_whole P so s (wrote plan c (whole is gained)) = inr (plan, so plan c, is, gained)
-wrote_whole {sink = sink} P so s (wrote plan c (cut is failed prefix proper gained)) = absurd (steady sink s failed)
+wrote_whole P so s (wrote reply c (whole is gained)) = inr (reply, so reply c, is, gained)
+wrote_whole {sink = sink} P so s (wrote reply c (cut is failed prefix proper gained)) = absurd (steady sink s failed)
 
 -- The same, where the status is not that of a failed reading.
-wrote_read : {cause : Plan → Type 0} {status : ℕ} {sink : Change} (P : Plan → Type 0) → ((plan : Plan) → cause plan → (plan_status plan ≡ 5 → ⊥) → P plan) → (status ≡ 5 → ⊥) → IsSteady sink → Ends cause status sink → WroteWhole P status sink
+wrote_read : {cause : Reply → Type 0} {status : ℕ} {sink : Change} (P : Reply → Type 0) → ((reply : Reply) → cause reply → (reply_status reply ≡ 5 → ⊥) → P reply) → (status ≡ 5 → ⊥) → IsSteady sink → Ends cause status sink → WroteWhole P status sink
 wrote_read P so ne s (memory is kept) = inl (is, kept)
-wrote_read P so ne s (wrote plan c (whole is gained)) = inr (plan, so plan c (λ five. ne (is ∙ five)), is, gained)
-wrote_read {sink = sink} P so ne s (wrote plan c (cut is failed prefix proper gained)) = absurd (steady sink s failed)
+wrote_read P so ne s (wrote reply c (whole is gained)) = inr (reply, so reply c (λ five. ne (is ∙ five)), is, gained)
+wrote_read {sink = sink} P so ne s (wrote reply c (cut is failed prefix proper gained)) = absurd (steady sink s failed)
 
-usage_of : {command : Command} {words_lead : Answer → Type 0} {input_leads : List ℕ → Answer → Type 0} {source : Change} (plan : Plan) → command ≡ Unknown → HasCause command words_lead input_leads source plan → plan ≡ Usage
+usage_of : {command : Command} {words_lead : Answer → Type 0} {input_leads : List ℕ → Answer → Type 0} {source : Change} (reply : Reply) → command ≡ Unknown → HasCause command words_lead input_leads source reply → reply ≡ Usage
 usage_of Usage is cause = refl
 usage_of Unread is (unread with failed few) = cc
 usage_of Long is (long with many) = cc
 usage_of (Answered answer) is (of_input a with all) = cc
 usage_of (Answered answer) is (of_words a without kept led) = cc
 
-long_of : {command : Command} {words_lead : Answer → Type 0} {input_leads : List ℕ → Answer → Type 0} {source : Change} (bytes : List ℕ) (plan : Plan) → command ≡ WithInput → source.before ≡ Some bytes → TookTooMany source → HasCause command words_lead input_leads source plan → plan ≡ Long
+long_of : {command : Command} {words_lead : Answer → Type 0} {input_leads : List ℕ → Answer → Type 0} {source : Change} (bytes : List ℕ) (reply : Reply) → command ≡ WithInput → source.before ≡ Some bytes → TookTooMany source → HasCause command words_lead input_leads source reply → reply ≡ Long
 long_of bytes Usage is told many (usage unknown kept) = cc
 long_of {source = source} bytes Unread is told many (unread with failed few) = absurd (not_few source bytes told many few.0 few.1 few.2)
 long_of bytes Long is told many (long with some) = refl
 long_of {source = source} bytes (Answered answer) is told many (of_input a with all) = absurd (not_few source bytes told many all.0 all.1 all.2)
 long_of bytes (Answered answer) is told many (of_words a without kept led) = cc
 
-answer_of : {command : Command} {words_lead : Answer → Type 0} {input_leads : List ℕ → Answer → Type 0} {source : Change} (bytes : List ℕ) (plan : Plan) → command ≡ WithInput → source.before ≡ Some bytes → TookAll source (λ b. ⊤) → HasCause command words_lead input_leads source plan → (plan_status plan ≡ 5 → ⊥) → IsAnswer (input_leads bytes) plan
+answer_of : {command : Command} {words_lead : Answer → Type 0} {input_leads : List ℕ → Answer → Type 0} {source : Change} (bytes : List ℕ) (reply : Reply) → command ≡ WithInput → source.before ≡ Some bytes → TookAll source (λ b. ⊤) → HasCause command words_lead input_leads source reply → (reply_status reply ≡ 5 → ⊥) → IsAnswer (input_leads bytes) reply
 answer_of bytes Usage is told all (usage unknown kept) ne = cc
 answer_of bytes Unread is told all (unread with failed few) ne = absurd (ne refl)
 answer_of {source = source} bytes Long is told all (long with many) ne = absurd (not_few source bytes told many all.0 all.1 all.2)
@@ -90,18 +90,18 @@ many_lead leads bytes many =
     let over : nat_le (length bytes) max_bytes ≡ false = grind (arith, many) in
     subst (λ b. MatchBool b (IsAnswer (leads bytes) Long) (Long ≡ Long)) (sym over) refl
 
-plan_of : {command : Command} {words_lead : Answer → Type 0} {input_leads : List ℕ → Answer → Type 0} {source : Change} (bytes : List ℕ) (plan : Plan) → command ≡ WithInput → source.before ≡ Some bytes → IsSteady source → HasCause command words_lead input_leads source plan → InputLeads input_leads bytes plan
-plan_of bytes Usage is told s (usage unknown kept) = cc
-plan_of {source = source} bytes Unread is told s (unread with failed few) = absurd (steady source s failed)
-plan_of {input_leads = input_leads} {source = source} bytes Long is told s (long with many) =
+reply_of : {command : Command} {words_lead : Answer → Type 0} {input_leads : List ℕ → Answer → Type 0} {source : Change} (bytes : List ℕ) (reply : Reply) → command ≡ WithInput → source.before ≡ Some bytes → IsSteady source → HasCause command words_lead input_leads source reply → InputLeads input_leads bytes reply
+reply_of bytes Usage is told s (usage unknown kept) = cc
+reply_of {source = source} bytes Unread is told s (unread with failed few) = absurd (steady source s failed)
+reply_of {input_leads = input_leads} {source = source} bytes Long is told s (long with many) =
     let rest = took source.before source.after bytes many.0 told many.1 in
     many_lead input_leads bytes (omega (arith, many.2, ap length rest.2, length-append many.0 rest.0))
-plan_of {input_leads = input_leads} {source = source} bytes (Answered answer) is told s (of_input a with all) =
+reply_of {input_leads = input_leads} {source = source} bytes (Answered answer) is told s (of_input a with all) =
     let same = all_bytes source bytes (λ b. input_leads b answer) told all in
     few_lead input_leads bytes answer (omega (arith, all.2, ap length same)) (leads_all input_leads source bytes answer told all)
-plan_of bytes (Answered answer) is told s (of_words a without kept led) = cc
+reply_of bytes (Answered answer) is told s (of_words a without kept led) = cc
 
-words_of : {command : Command} {words_lead : Answer → Type 0} {input_leads : List ℕ → Answer → Type 0} {source : Change} (plan : Plan) → command ≡ WithoutInput → HasCause command words_lead input_leads source plan → IsAnswer words_lead plan
+words_of : {command : Command} {words_lead : Answer → Type 0} {input_leads : List ℕ → Answer → Type 0} {source : Change} (reply : Reply) → command ≡ WithoutInput → HasCause command words_lead input_leads source reply → IsAnswer words_lead reply
 words_of Usage is (usage unknown kept) = cc
 words_of Unread is (unread with failed few) = cc
 words_of Long is (long with many) = cc
@@ -109,23 +109,23 @@ words_of (Answered answer) is (of_input a with all) = cc
 words_of (Answered answer) is (of_words a without kept led) = led
 
 -- Words that the call doesn't know give status 1, unless the sink fails.
-pub refused : {command : Command} {words_lead : Answer → Type 0} {input_leads : List ℕ → Answer → Type 0} {source : Change} {status : ℕ} {sink : Change} → Ends (HasCause command words_lead input_leads source) status sink → command ≡ Unknown → IsSteady sink → WroteWhole (λ plan. plan ≡ Usage) status sink
-refused ends is sink = wrote_whole (λ plan. plan ≡ Usage) (λ plan cause. usage_of plan is cause) sink ends
+pub refused : {command : Command} {words_lead : Answer → Type 0} {input_leads : List ℕ → Answer → Type 0} {source : Change} {status : ℕ} {sink : Change} → Ends (HasCause command words_lead input_leads source) status sink → command ≡ Unknown → IsSteady sink → WroteWhole (λ reply. reply ≡ Usage) status sink
+refused ends is sink = wrote_whole (λ reply. reply ≡ Usage) (λ reply cause. usage_of reply is cause) sink ends
 
 -- More bytes than an input may have give status 7, unless the sink fails.
-pub too_long : {command : Command} {words_lead : Answer → Type 0} {input_leads : List ℕ → Answer → Type 0} {source : Change} {status : ℕ} {sink : Change} → Ends (HasCause command words_lead input_leads source) status sink → (bytes : List ℕ) → command ≡ WithInput → source.before ≡ Some bytes → TookTooMany source → IsSteady sink → WroteWhole (λ plan. plan ≡ Long) status sink
-too_long ends bytes is told many sink = wrote_whole (λ plan. plan ≡ Long) (λ plan cause. long_of bytes plan is told many cause) sink ends
+pub too_long : {command : Command} {words_lead : Answer → Type 0} {input_leads : List ℕ → Answer → Type 0} {source : Change} {status : ℕ} {sink : Change} → Ends (HasCause command words_lead input_leads source) status sink → (bytes : List ℕ) → command ≡ WithInput → source.before ≡ Some bytes → TookTooMany source → IsSteady sink → WroteWhole (λ reply. reply ≡ Long) status sink
+too_long ends bytes is told many sink = wrote_whole (λ reply. reply ≡ Long) (λ reply cause. long_of bytes reply is told many cause) sink ends
 
 -- Where all the bytes were taken and the status isn't that of a failed reading, they alone decide, unless the sink fails.
 pub exact : {command : Command} {words_lead : Answer → Type 0} {input_leads : List ℕ → Answer → Type 0} {source : Change} {status : ℕ} {sink : Change} → Ends (HasCause command words_lead input_leads source) status sink → (bytes : List ℕ) → command ≡ WithInput → source.before ≡ Some bytes → TookAll source (λ b. ⊤) → (status ≡ 5 → ⊥) → IsSteady sink → WroteWhole (IsAnswer (input_leads bytes)) status sink
 exact {input_leads = input_leads} ends bytes is told all ne sink =
-    wrote_read (IsAnswer (input_leads bytes)) (λ plan cause. answer_of bytes plan is told all cause) ne sink ends
+    wrote_read (IsAnswer (input_leads bytes)) (λ reply cause. answer_of bytes reply is told all cause) ne sink ends
 
 -- Where neither the source nor the sink fails, the input alone decides, unless memory runs out.
 pub complete : {command : Command} {words_lead : Answer → Type 0} {input_leads : List ℕ → Answer → Type 0} {source : Change} {status : ℕ} {sink : Change} → Ends (HasCause command words_lead input_leads source) status sink → (bytes : List ℕ) → command ≡ WithInput → source.before ≡ Some bytes → IsSteady source → IsSteady sink → WroteWhole (InputLeads input_leads bytes) status sink
 complete {input_leads = input_leads} ends bytes is told source sink =
-    wrote_whole (InputLeads input_leads bytes) (λ plan cause. plan_of bytes plan is told source cause) sink ends
+    wrote_whole (InputLeads input_leads bytes) (λ reply cause. reply_of bytes reply is told source cause) sink ends
 
 -- Words that need no input decide alone, unless the sink fails or memory runs out.
 pub words_alone : {command : Command} {words_lead : Answer → Type 0} {input_leads : List ℕ → Answer → Type 0} {source : Change} {status : ℕ} {sink : Change} → Ends (HasCause command words_lead input_leads source) status sink → command ≡ WithoutInput → IsSteady sink → WroteWhole (IsAnswer words_lead) status sink
-words_alone {words_lead = words_lead} ends is sink = wrote_whole (IsAnswer words_lead) (λ plan cause. words_of plan is cause) sink ends
+words_alone {words_lead = words_lead} ends is sink = wrote_whole (IsAnswer words_lead) (λ reply cause. words_of reply is cause) sink ends

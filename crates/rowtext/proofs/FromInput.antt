@@ -2,9 +2,9 @@
 use Rattle.std.proofs.Common.{◌≡◌, ℕ, List}
 use Rattle.rowtext.specs.declared.command.Command.{Command}
 use Rattle.rowtext.specs.declared.command.Command.TheVariants.{WithoutInput}
-use Rattle.rowtext.specs.declared.plan.Answer.{Answer}
-use Rattle.rowtext.specs.declared.plan.Answer.TheVariants.{Fault, Printed}
-use Rattle.rowtext.specs.declared.plan.Plan.TheVariants.{Answered}
+use Rattle.rowtext.specs.declared.reply.Answer.{Answer}
+use Rattle.rowtext.specs.declared.reply.Answer.TheVariants.{Fault, Printed}
+use Rattle.rowtext.specs.declared.reply.Reply.TheVariants.{Answered}
 use Rattle.rowtext.specs.Changes.{Change, IsUntouched, TookAll, Gained}
 use Rattle.rowtext.specs.Causes.{HasCause, of_input, of_words}
 use Rattle.rowtext.specs.Outcomes.{Ends}

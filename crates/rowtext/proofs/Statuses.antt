@@ -1,96 +1,96 @@
 -- What each status says, for any top call.
 use Rattle.std.proofs.Common.{◌≡◌, ◌≤◌, ℕ, List, refl, sym, subst, ◌∙◌, arith}
 use Rattle.rowtext.specs.Bytes.{IsProperPrefix}
-use Rattle.rowtext.specs.declared.plan.Answer.TheVariants.{Form, Unbuilt, Fault, Printed}
-use Rattle.rowtext.specs.declared.plan.Plan.{Plan}
-use Rattle.rowtext.specs.declared.plan.Plan.TheVariants.{Usage, Unread, Long, Answered}
-use Rattle.rowtext.specs.Plans.{plan_status, plan_text}
+use Rattle.rowtext.specs.declared.reply.Answer.TheVariants.{Form, Unbuilt, Fault, Printed}
+use Rattle.rowtext.specs.declared.reply.Reply.{Reply}
+use Rattle.rowtext.specs.declared.reply.Reply.TheVariants.{Usage, Unread, Long, Answered}
+use Rattle.rowtext.specs.Replies.{reply_status, reply_text}
 use Rattle.rowtext.specs.Changes.{Change, HasFailed, IsUntouched, Gained}
 use Rattle.rowtext.specs.Outcomes.{whole, cut, Ends, wrote, memory, Did, ByStatus}
 
--- each status of a fixed text belongs to one plan
+-- each status of a fixed text belongs to one reply
 
-only_usage : (plan : Plan) → plan_status plan ≡ 1 → plan ≡ Usage
+only_usage : (reply : Reply) → reply_status reply ≡ 1 → reply ≡ Usage
 only_usage Usage e = refl
 only_usage (Answered (Printed text)) e = absurd (omega (arith, e))
-only_usage plan e = absurd (omega (arith, e))
+only_usage reply e = absurd (omega (arith, e))
 
-only_form : (plan : Plan) → plan_status plan ≡ 2 → plan ≡ Answered Form
+only_form : (reply : Reply) → reply_status reply ≡ 2 → reply ≡ Answered Form
 only_form (Answered Form) e = refl
-only_form plan e = absurd (omega (arith, e))
+only_form reply e = absurd (omega (arith, e))
 
-only_unread : (plan : Plan) → plan_status plan ≡ 5 → plan ≡ Unread
+only_unread : (reply : Reply) → reply_status reply ≡ 5 → reply ≡ Unread
 only_unread Unread e = refl
 only_unread (Answered (Printed text)) e = absurd (omega (arith, e))
-only_unread plan e = absurd (omega (arith, e))
+only_unread reply e = absurd (omega (arith, e))
 
-only_long : (plan : Plan) → plan_status plan ≡ 7 → plan ≡ Long
+only_long : (reply : Reply) → reply_status reply ≡ 7 → reply ≡ Long
 only_long Long e = refl
 only_long (Answered (Printed text)) e = absurd (omega (arith, e))
-only_long plan e = absurd (omega (arith, e))
+only_long reply e = absurd (omega (arith, e))
 
-only_unbuilt : (plan : Plan) → plan_status plan ≡ 8 → plan ≡ Answered Unbuilt
+only_unbuilt : (reply : Reply) → reply_status reply ≡ 8 → reply ≡ Answered Unbuilt
 only_unbuilt (Answered Unbuilt) e = refl
-only_unbuilt plan e = absurd (omega (arith, e))
+only_unbuilt reply e = absurd (omega (arith, e))
 
--- a status that one plan has: its cause, and its text
-of_one : {cause : Plan → Type 0} {status : ℕ} {sink : Change} (n : ℕ) (only : Plan) → ((plan : Plan) → plan_status plan ≡ n → plan ≡ only) → (n ≡ 4 → ⊥) → (n ≡ 6 → ⊥) → Ends cause status sink → status ≡ n → Did cause sink only
+-- a status that one reply has: its cause, and its text
+of_one : {cause : Reply → Type 0} {status : ℕ} {sink : Change} (n : ℕ) (only : Reply) → ((reply : Reply) → reply_status reply ≡ n → reply ≡ only) → (n ≡ 4 → ⊥) → (n ≡ 6 → ⊥) → Ends cause status sink → status ≡ n → Did cause sink only
 of_one n only is_only not_memory not_cut (memory four kept) is = absurd (not_memory (sym is ∙ four))
-of_one n only is_only not_memory not_cut (wrote plan c (cut six failed prefix proper gained)) is = absurd (not_cut (sym is ∙ six))
-of_one {cause = cause} {sink = sink} n only is_only not_memory not_cut (wrote plan c (whole s gained)) is =
-    let same : plan ≡ only = is_only plan (sym s ∙ is) in
-    (subst cause same c, subst (λ (p : Plan). Gained sink (plan_text p)) same gained)
+of_one n only is_only not_memory not_cut (wrote reply c (cut six failed prefix proper gained)) is = absurd (not_cut (sym is ∙ six))
+of_one {cause = cause} {sink = sink} n only is_only not_memory not_cut (wrote reply c (whole s gained)) is =
+    let same : reply ≡ only = is_only reply (sym s ∙ is) in
+    (subst cause same c, subst (λ (p : Reply). Gained sink (reply_text p)) same gained)
 
-pub of_zero : {cause : Plan → Type 0} {status : ℕ} {sink : Change} → Ends cause status sink → status ≡ 0 → (text : List ℕ) × cause (Answered (Printed text)) × Gained sink text
+pub of_zero : {cause : Reply → Type 0} {status : ℕ} {sink : Change} → Ends cause status sink → status ≡ 0 → (text : List ℕ) × cause (Answered (Printed text)) × Gained sink text
 of_zero (memory four kept) is = absurd (omega (arith, is, four))
-of_zero (wrote plan c (cut six failed prefix proper gained)) is = absurd (omega (arith, is, six))
+of_zero (wrote reply c (cut six failed prefix proper gained)) is = absurd (omega (arith, is, six))
 of_zero (wrote (Answered (Printed text)) c (whole s gained)) is = (text, c, gained)
-of_zero (wrote plan c (whole s gained)) is = absurd (omega (arith, is, s))
+of_zero (wrote reply c (whole s gained)) is = absurd (omega (arith, is, s))
 
-pub of_three : {cause : Plan → Type 0} {status : ℕ} {sink : Change} → Ends cause status sink → status ≡ 3 → (text : List ℕ) × cause (Answered (Fault text)) × Gained sink text
+pub of_three : {cause : Reply → Type 0} {status : ℕ} {sink : Change} → Ends cause status sink → status ≡ 3 → (text : List ℕ) × cause (Answered (Fault text)) × Gained sink text
 of_three (memory four kept) is = absurd (omega (arith, is, four))
-of_three (wrote plan c (cut six failed prefix proper gained)) is = absurd (omega (arith, is, six))
+of_three (wrote reply c (cut six failed prefix proper gained)) is = absurd (omega (arith, is, six))
 of_three (wrote (Answered (Fault text)) c (whole s gained)) is = (text, c, gained)
-of_three (wrote plan c (whole s gained)) is = absurd (omega (arith, is, s))
+of_three (wrote reply c (whole s gained)) is = absurd (omega (arith, is, s))
 
--- no plan has these statuses
-not_four : (plan : Plan) → plan_status plan ≡ 4 → ⊥
+-- no reply has these statuses
+not_four : (reply : Reply) → reply_status reply ≡ 4 → ⊥
 not_four (Answered (Printed text)) e = omega (arith, e)
 not_four (Answered Form) e = omega (arith, e)
 not_four (Answered (Fault text)) e = omega (arith, e)
 not_four (Answered Unbuilt) e = omega (arith, e)
-not_four plan e = omega (arith, e)
+not_four reply e = omega (arith, e)
 
-not_six : (plan : Plan) → plan_status plan ≡ 6 → ⊥
+not_six : (reply : Reply) → reply_status reply ≡ 6 → ⊥
 not_six (Answered (Printed text)) e = omega (arith, e)
 not_six (Answered Form) e = omega (arith, e)
 not_six (Answered (Fault text)) e = omega (arith, e)
 not_six (Answered Unbuilt) e = omega (arith, e)
-not_six plan e = omega (arith, e)
+not_six reply e = omega (arith, e)
 
-in_range : (plan : Plan) → plan_status plan ≤ 8
+in_range : (reply : Reply) → reply_status reply ≤ 8
 in_range (Answered (Printed text)) = omega arith
 in_range (Answered Form) = omega arith
 in_range (Answered (Fault text)) = omega arith
 in_range (Answered Unbuilt) = omega arith
-in_range plan = omega arith
+in_range reply = omega arith
 
-of_four : {cause : Plan → Type 0} {status : ℕ} {sink : Change} → Ends cause status sink → status ≡ 4 → IsUntouched sink
+of_four : {cause : Reply → Type 0} {status : ℕ} {sink : Change} → Ends cause status sink → status ≡ 4 → IsUntouched sink
 of_four (memory four kept) is = kept
-of_four (wrote plan c (cut six failed prefix proper gained)) is = absurd (omega (arith, is, six))
-of_four (wrote plan c (whole s gained)) is = absurd (not_four plan (sym s ∙ is))
+of_four (wrote reply c (cut six failed prefix proper gained)) is = absurd (omega (arith, is, six))
+of_four (wrote reply c (whole s gained)) is = absurd (not_four reply (sym s ∙ is))
 
-of_six : {cause : Plan → Type 0} {status : ℕ} {sink : Change} → Ends cause status sink → status ≡ 6 → (plan : Plan) × cause plan × HasFailed sink × (prefix : List ℕ) × IsProperPrefix prefix (plan_text plan) × Gained sink prefix
+of_six : {cause : Reply → Type 0} {status : ℕ} {sink : Change} → Ends cause status sink → status ≡ 6 → (reply : Reply) × cause reply × HasFailed sink × (prefix : List ℕ) × IsProperPrefix prefix (reply_text reply) × Gained sink prefix
 of_six (memory four kept) is = absurd (omega (arith, is, four))
-of_six (wrote plan c (cut six failed prefix proper gained)) is = (plan, c, failed, prefix, proper, gained)
-of_six (wrote plan c (whole s gained)) is = absurd (not_six plan (sym s ∙ is))
+of_six (wrote reply c (cut six failed prefix proper gained)) is = (reply, c, failed, prefix, proper, gained)
+of_six (wrote reply c (whole s gained)) is = absurd (not_six reply (sym s ∙ is))
 
-known : {cause : Plan → Type 0} {status : ℕ} {sink : Change} → Ends cause status sink → status ≤ 8
+known : {cause : Reply → Type 0} {status : ℕ} {sink : Change} → Ends cause status sink → status ≤ 8
 known (memory four kept) = omega (arith, four)
-known (wrote plan c (cut six failed prefix proper gained)) = omega (arith, six)
-known (wrote plan c (whole s gained)) = omega (arith, s, in_range plan)
+known (wrote reply c (cut six failed prefix proper gained)) = omega (arith, six)
+known (wrote reply c (whole s gained)) = omega (arith, s, in_range reply)
 
-pub by_status : {cause : Plan → Type 0} {status : ℕ} {sink : Change} → Ends cause status sink → ByStatus cause status sink
+pub by_status : {cause : Reply → Type 0} {status : ℕ} {sink : Change} → Ends cause status sink → ByStatus cause status sink
 by_status ends = record {
   is_printed = of_zero ends;
   is_usage = of_one 1 Usage only_usage (λ e. omega (arith, e)) (λ e. omega (arith, e)) ends;

@@ -4,5 +4,5 @@ pub mod Changes
 pub mod FaultCounts
 pub mod Memory
 pub mod Outcomes
-pub mod Plans
+pub mod Replies
 pub mod Schedule

@@ -3,8 +3,8 @@
 
 mod command;
 mod memory;
-mod plan;
 mod read;
+mod reply;
 mod sink;
 mod source;
 mod standard;
@@ -14,8 +14,8 @@ mod write;
 
 pub use command::Command;
 pub use memory::{MemorySink, MemorySource, NullSink, SteadySource};
-pub use plan::{Answer, Plan};
 pub use read::{MAX_BYTES, ReadFault, read_whole};
+pub use reply::{Answer, Reply};
 pub use sink::{Sink, SinkFailed};
 pub use source::{Source, SourceFailed};
 pub use standard::{StdSink, StdSource};

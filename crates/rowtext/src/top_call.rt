@@ -4,8 +4,8 @@ ghost use Rattle.rowtext.specs.Changes.{change};
 ghost use Rattle.rowtext.specs.Causes.{HasCause};
 ghost use Rattle.rowtext.specs.Outcomes.{Ends};
 
-use crate::plan::write_plan;
-use crate::{Answer, Command, Plan, ReadFault, Sink, Source, read_whole};
+use crate::reply::write_reply;
+use crate::{Answer, Command, ReadFault, Reply, Sink, Source, read_whole};
 use std::alloc::{AllocError, Global};
 
 /// A top call over an engine: what its words ask for, and what it answers.
@@ -13,7 +13,7 @@ use std::alloc::{AllocError, Global};
 /// A call that needs no engine takes `&mut ()`.
 pub trait TopCall<E> {
     ghost use Rattle.rowtext.specs.declared.command.Command.{Command};
-    ghost use Rattle.rowtext.specs.declared.plan.Answer.{Answer};
+    ghost use Rattle.rowtext.specs.declared.reply.Answer.{Answer};
 
     /// What the words ask for.
     ghost command: { Self → List (List ℕ) → Command };
@@ -55,50 +55,50 @@ pub trait TopCall<E> {
 }
 
 /// What a call means to write that answers to its input.
-fn input_plan<E, C: TopCall<E>, S: Source>(
+fn input_reply<E, C: TopCall<E>, S: Source>(
     alloc: Global,
     words: &[String],
     call: &C,
     engine: &mut E,
     source: &mut S,
-) -> Result<Plan, AllocError>
+) -> Result<Reply, AllocError>
     requires { C.command call.now (map string_bytes words.now) ≡ Command.WithInput }
-    ensures cause { IfOk result (λ plan. HasCause (C.command call.now (map string_bytes words.now))
+    ensures cause { IfOk result (λ reply. HasCause (C.command call.now (map string_bytes words.now))
         (C.words_lead call.now engine.old engine.new (map string_bytes words.now))
         (C.input_leads call.now engine.old engine.new (map string_bytes words.now))
-        (change S.left S.faults source.old source.new) plan) }
+        (change S.left S.faults source.old source.new) reply) }
     ensures no_lower { S.faults source.old ≤ S.faults source.new }
 {
     let bytes = match read_whole(alloc, source) {
         Ok(bytes) => bytes,
-        Err(ReadFault::Failed) => return Ok(Plan::Unread),
-        Err(ReadFault::Long) => return Ok(Plan::Long),
+        Err(ReadFault::Failed) => return Ok(Reply::Unread),
+        Err(ReadFault::Long) => return Ok(Reply::Long),
         Err(ReadFault::Memory) => return Err(AllocError),
     };
     let answer = call.answer_input(alloc, words, engine, &bytes)?;
-    Ok(Plan::Answered(answer))
+    Ok(Reply::Answered(answer))
 }
 
 /// What a call means to write.
-fn plan_of<E, C: TopCall<E>, S: Source>(
+fn reply_of<E, C: TopCall<E>, S: Source>(
     alloc: Global,
     words: &[String],
     call: &C,
     engine: &mut E,
     source: &mut S,
-) -> Result<Plan, AllocError>
-    ensures cause { IfOk result (λ plan. HasCause (C.command call.now (map string_bytes words.now))
+) -> Result<Reply, AllocError>
+    ensures cause { IfOk result (λ reply. HasCause (C.command call.now (map string_bytes words.now))
         (C.words_lead call.now engine.old engine.new (map string_bytes words.now))
         (C.input_leads call.now engine.old engine.new (map string_bytes words.now))
-        (change S.left S.faults source.old source.new) plan) }
+        (change S.left S.faults source.old source.new) reply) }
     ensures no_lower { S.faults source.old ≤ S.faults source.new }
 {
     match call.command(words) {
-        Command::Unknown => Ok(Plan::Usage),
-        Command::WithInput => input_plan(alloc, words, call, engine, source),
+        Command::Unknown => Ok(Reply::Usage),
+        Command::WithInput => input_reply(alloc, words, call, engine, source),
         Command::WithoutInput => {
             let answered = call.answer_words(alloc, words, engine)?;
-            Ok(Plan::Answered(answered))
+            Ok(Reply::Answered(answered))
         }
     }
 }
@@ -123,8 +123,8 @@ pub fn conduct<E, C: TopCall<E>, S: Source, K: Sink>(
     ensures source_faults { S.faults source.old ≤ S.faults source.new }
     ensures sink_faults { K.faults sink.old ≤ K.faults sink.new }
 {
-    match plan_of(alloc, words, call, engine, source) {
-        Ok(plan) => write_plan(sink, &plan),
+    match reply_of(alloc, words, call, engine, source) {
+        Ok(reply) => write_reply(sink, &reply),
         Err(AllocError) => 4,
     }
 }

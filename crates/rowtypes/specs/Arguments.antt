@@ -1,8 +1,9 @@
--- An argument that is one value or a decoded column.
-use Rattle.std.specs.Prelude.{ℕ, zero, suc, Option, None, Some, [], ◌∷◌, ◌≡◌, refl, false}
+-- Tuples of up to four arguments: what each place has, and the laws of tuples, which ghost members cite.
+use Rattle.std.specs.Prelude.{ℕ, zero, suc, None, Some, [], ◌∷◌, ◌≡◌, refl, false}
 use Rattle.coltypes.specs.Cell.{Cell, truth}
 use Rattle.colbase.specs.Arrays.{Array, row}
 use Rattle.rowelems.specs.Shown.{batch_value, shown_by, shown_by_constant, shown_by_row}
+use Rattle.rowelems.specs.Argument.{arg_shows, arg_value}
 use Rattle.rowtypes.specs.Rows.{AgreesAt, AgreesWith}
 use Rattle.rowelems.specs.declared.arg_column.ArgColumn.{ArgColumn}
 use Rattle.rowelems.specs.declared.arg_column.ArgColumn.TheVariants.{Value, Column}

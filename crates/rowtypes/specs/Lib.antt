@@ -1,3 +1,4 @@
+-- What tuples of arguments accept, read and show, place by place.
 pub mod Rows
 pub mod Arguments
 pub mod SideBySide

@@ -1,5 +1,6 @@
--- Rows of several arguments. Each word counts the places of the arguments up from the one that is given.
-use Rattle.std.specs.Prelude.{◌≡◌, ℕ, suc, ◌<◌, Bool, true, ◌&&◌, List, [], ◌∷◌, Option, None, Some, Result, Ok, Err, ⊤, ◌⊎◌, cond, nat_eq, min, ◌+◌, ◌-◌, ◌^◌}
+-- Rows of several arguments. Each word counts the places of the arguments up from the one that is given, so that the
+-- rest of a list is a list of arguments too.
+use Rattle.std.specs.Prelude.{◌≡◌, ℕ, suc, Bool, true, ◌&&◌, List, [], ◌∷◌, Option, None, Some, Result, Ok, Err, ⊤, ◌⊎◌, cond}
 use Rattle.coltypes.specs.Cell.{Cell}
 use Rattle.coltypes.specs.LogicalType.{LogicalType}
 use Rattle.coltypes.specs.LogicalTypeOf.{logical_type}
@@ -7,8 +8,8 @@ use Rattle.colbase.specs.Arrays.{Array, len, dtype}
 use Rattle.coltypes.specs.declared.dtype.DType.{DType}
 use Rattle.coltypes.specs.declared.fault.Fault.{Fault}
 use Rattle.coltypes.specs.declared.fault.Fault.TheVariants.{Dtype, Decode, Memory}
-use Rattle.colbase.specs.Arrays.{MustRead}
 use Rattle.rowelems.specs.Shown.{batch_value}
+use Rattle.rowelems.specs.Argument.{ReadsAll, IsWithin, is_length, length_unless}
 use Rattle.rowelems.specs.Reading.{Unread}
 
 abbrev pub logical_types : List DType → List LogicalType

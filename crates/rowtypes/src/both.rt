@@ -1,3 +1,4 @@
+// Two tuples as one. Every ghost member is that of the first below its arity, and that of the second above.
 ghost use Rattle.std.specs.Prelude.{◌≡◌, ℕ, ◌+◌, Bool, true, ◌&&◌, List, ◌++◌, length, min, ◌-◌, ◌^◌};
 
 use crate::tuple::ElementTuple;

@@ -1,3 +1,5 @@
+// The trait of tuples of elements. Its ghost members go by the place of the argument, so that one definition serves
+// tuples of each length, and two side by side.
 ghost use Rattle.std.specs.Prelude.{◌≡◌, ℕ, Bool, true, false, Ok, IfSome, is_some, ◌&&◌, List, [], ◌∷◌, length, ◌<◌, ⊤, Option, None, Some, IfOk, IfErr};
 
 use colbase::{ArrayRef, DType, ExecutionCtx, Res};

@@ -1,4 +1,4 @@
-// The answers of a callback to all rows of decoded arguments.
+// The answers of a callback to all rows of decoded arguments, written by index into the places of a buffer.
 ghost use Rattle.std.specs.Prelude.{◌≡◌, ◌<◌, ℕ, true, length, slice_index_or};
 ghost use Rattle.bitlane.specs.Maps.{MapsTo};
 ghost use Rattle.rowtypes.specs.Rows.{each_length};

@@ -1,7 +1,11 @@
 // What no clause says: texts of errors, the calls that fail, and one run of each generic function.
 ghost use Rattle.std.specs.Prelude.{◌≡◌, ◌≤◌, ◌<◌, ◌-◌, None, IfOk, IfErr, length};
 
-use super::*;
+use rowtext::{
+    Answer, Command, MAX_BYTES, MemorySink, MemorySource, NullSink, ReadFault, Reply, Sink,
+    SinkFailed, Source, SourceFailed, StdSink, StdSource, SteadySource, Text, TopCall, conduct,
+    read_whole, write_whole,
+};
 use std::alloc::{AllocError, Global};
 use std::io;
 use std::io::{ErrorKind, Read, Write};

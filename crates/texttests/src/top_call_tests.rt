@@ -1,10 +1,14 @@
 // One small top call through every status.
 ghost use Rattle.std.specs.Prelude.{◌≡◌, ◌==◌, if◌then◌else◌, ℕ, length, codes};
 ghost use Rattle.rowtext.specs.declared.command.Command.TheVariants.{Unknown, WithInput, WithoutInput};
-ghost use Rattle.rowtext.specs.declared.plan.Answer.TheVariants.{Form, Printed};
+ghost use Rattle.rowtext.specs.declared.reply.Answer.TheVariants.{Form, Printed};
 
-use super::*;
 use crate::tests::Zeros;
+use rowtext::{
+    Answer, Command, MAX_BYTES, MemorySink, MemorySource, NullSink, ReadFault, Reply, Sink,
+    SinkFailed, Source, SourceFailed, StdSink, StdSource, SteadySource, Text, TopCall, conduct,
+    read_whole, write_whole,
+};
 use std::alloc::{AllocError, Global};
 use std::test::Fail;
 

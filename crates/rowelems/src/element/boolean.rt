@@ -1,4 +1,4 @@
-// Truth values.
+// The element of truth values. It reads the payload below the masks, with its nulls: each stored bit is a truth value.
 ghost use Rattle.std.specs.Prelude.{◌≡◌, ◌<◌, ℕ, length, true, false, replicate, Some, IsSome, IfOk, IfErr};
 ghost use Rattle.bitlane.specs.Bits.{bit};
 ghost use Rattle.coltypes.specs.Cell.{Cell, truth};

@@ -1,4 +1,4 @@
-// Scales of decimals.
+// The element of decimal scales. What is stored under a null may be no scale, so it is neither read nor shown.
 ghost use Rattle.std.specs.Prelude.{◌≡◌, ◌<◌, ◌≤◌, ◌⊎◌, ℕ, length, true, slice_index_or, IfOk, IfErr};
 ghost use Rattle.bitlane.specs.Bits.{bit};
 ghost use Rattle.coltypes.specs.declared.dtype.PType.TheVariants as ptype;

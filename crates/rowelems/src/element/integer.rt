@@ -1,4 +1,4 @@
-// What the eight integer elements share.
+// What the eight integer elements share: the payload of an array and the value of a constant, over any native integer.
 ghost use Rattle.std.specs.Prelude.{◌≡◌, ◌<◌, ℕ, IsTrue, length, pos, true, replicate, Some, IsSome, IfOk, IfErr};
 ghost use Rattle.coltypes.specs.Cell.{Cell, number};
 ghost use Rattle.colbase.specs.Arrays.{dtype, len, MustRead, constant_cell as cell_of_constant};

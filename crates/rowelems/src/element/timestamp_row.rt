@@ -1,4 +1,5 @@
-// Timestamps.
+// The element of timestamps. It reads the payload of the 64-bit storage below the masks and the extension; a constant
+// may be of the extension type itself.
 ghost use Rattle.std.specs.Prelude.{◌≡◌, ◌<◌, ℕ, length, true, bytes_eq, Some, IsSome, IfOk, IfErr};
 ghost use Rattle.coltypes.specs.declared.dtype.PType.TheVariants as ptype;
 ghost use Rattle.coltypes.specs.declared.values.PrimitiveValues.TheVariants as values;

@@ -1,4 +1,5 @@
-// The unsigned integer elements.
+// The elements of the four unsigned integers. The impls are alike but for the type: generic code decodes for each of
+// them.
 ghost use Rattle.std.specs.Prelude.{◌≡◌, ◌<◌, ℕ, IsTrue, length, replicate, IfOk, IfErr};
 ghost use Rattle.coltypes.specs.Fits.{in_range};
 ghost use Rattle.coltypes.specs.Values.{number_at};

@@ -1,4 +1,4 @@
-// Outputs of truth values.
+// Outputs of truth values. A loop writes bytes, and the column packs them into bits.
 ghost use Rattle.std.specs.Prelude.{◌≡◌, ◌<◌, ℕ, map, IfOk, IfErr};
 ghost use Rattle.coltypes.specs.declared.dtype.Nullability.TheVariants.{NonNullable as not_nullable};
 ghost use Rattle.coltypes.specs.Cell.{truth};

@@ -1,4 +1,4 @@
-// What the eight integer outputs share.
+// What the eight integer outputs share: the column of a list of native integers.
 ghost use Rattle.std.specs.Prelude.{◌≡◌, map, IfOk, IfErr};
 ghost use Rattle.coltypes.specs.declared.dtype.Nullability.TheVariants.{NonNullable};
 ghost use Rattle.coltypes.specs.Cell.{number};

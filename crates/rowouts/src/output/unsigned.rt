@@ -1,4 +1,4 @@
-// Outputs of unsigned integers.
+// Outputs of the four unsigned integers. The impls are alike but for the type.
 ghost use Rattle.std.specs.Prelude.{◌≡◌, ◌<◌, ℕ, pos, map, IfOk, IfErr};
 ghost use Rattle.coltypes.specs.declared.dtype.Nullability.TheVariants.{NonNullable as not_nullable};
 ghost use Rattle.coltypes.specs.Cell.{number};

@@ -31,8 +31,7 @@ impl<'a, T: InputElement, V> Beside<'a, T, V> {
 impl<'a, X: Drop, T: InputElement, V: SourceVisitor<(X, T::Elem)>> SourceVisitor<X>
     for Beside<'a, T, V> {
     ghost use Rattle.std.specs.Prelude.{◌≡◌, true};
-    ghost use Rattle.rowelems.specs.Argument.{arg_length, arg_shows};
-    ghost use Rattle.rowelems.specs.Argument.{is_length};
+    ghost use Rattle.rowelems.specs.Argument.{arg_length, arg_shows, is_length};
 
     type Output = V::Output;
 

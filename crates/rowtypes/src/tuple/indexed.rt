@@ -1,3 +1,4 @@
+// Loops over the rows of tuples: each argument picks the type of its source before the loop.
 ghost use Rattle.std.specs.Prelude.{◌≡◌, ◌<◌, ℕ, true};
 
 use super::ElementTuple;

@@ -1,3 +1,4 @@
+// Tuples of one and of two arguments.
 ghost use Rattle.std.specs.Prelude.{◌≡◌, ℕ, Bool, true, ◌&&◌, List, [], ◌∷◌, length, ◌<◌, ⊤, ◌⊎◌, Option, None, Some, IfOk, IfErr, IfSome, is_some};
 
 use super::{ElementTuple, accepts_type};

@@ -6,8 +6,6 @@ use Rattle.colbase.specs.Natives.{signed_at}
 use Rattle.colbase.specs.Arrays.{len}
 use Rattle.colbase.specs.Parts.{storage_of}
 use Rattle.rowelems.specs.Elements.{shown_number}
-use Rattle.rowelems.specs.Unmasked.{unmasked}
-use Rattle.rowelems.specs.Shown.{stored_or}
 use Rattle.rowelems.proofs.Numbers.{number-shown, get-replicate}
 use Rattle.colbase.proofs.Results.{if_ok-map}
 use Rattle.rowelems.proofs.Timestamps.{timestamp-layouts, timestamp-storage, timestamp-stored, storage-len, storage-shown}
