@@ -1,17 +1,15 @@
 -- The rows of a column that is printed, as they are stored and as scalars.
-use Rattle.std.proofs.Common.{◌≡◌, ℕ, ℤ, ◌<◌, Bool, true, false, List, Option, Some, None, option_map, ap, refl, sym, ◌∙◌, subst, length}
-use Rattle.std.specs.Prelude.{IsTrue, if◌then◌else◌}
-use Rattle.colbase.specs.Arrays.{Array, constant, masked, extension, primitive, bool, varbin, varbinview, list, listview, fixed_size_list, if_valid, len, row}
+use Rattle.std.proofs.Common.{◌≡◌, ℕ, ℤ, ◌<◌, Bool, true, false, List, Some, None, refl, sym, ◌∙◌, subst}
+use Rattle.std.specs.Prelude.{if◌then◌else◌}
+use Rattle.colbase.specs.Arrays.{Array, constant, masked, extension, primitive, bool, varbin, varbinview, list, listview, fixed_size_list, len, row}
 use Rattle.coltypes.specs.Cell as cells
 use Rattle.coltypes.specs.Cell.{Cell, number}
-use Rattle.coltypes.specs.Fits.{fits, storage_type}
+use Rattle.coltypes.specs.Fits.{fits}
 use Rattle.coltypes.specs.LogicalType as types
 use Rattle.coltypes.specs.LogicalType.{LogicalType}
 use Rattle.colbase.specs.Parts.{storage_of, values_of}
 use Rattle.coltypes.specs.Valid.{valid_at}
 use Rattle.coltypes.specs.Values.{number_at}
-use Rattle.coltypes.specs.declared.dtype.Nullability.{Nullability}
-use Rattle.coltypes.specs.declared.dtype.PType.TheVariants.{I8, I16, I32, I64, U8, U16, U32, U64}
 use Rattle.coltypes.specs.declared.validity.Validity.{Validity}
 use Rattle.coltypes.specs.declared.values.PrimitiveValues.{PrimitiveValues}
 use Rattle.coltypes.specs.declared.values.PrimitiveValues.TheVariants as values
