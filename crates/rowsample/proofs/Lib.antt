@@ -1,3 +1,3 @@
-pub mod Evidence
+pub mod ExactNumbers
 pub mod Powers
 pub mod SameElements

@@ -11,7 +11,7 @@ use Rattle.rowplan.specs.Outcomes.{done}
 use Rattle.rowsample.specs.Functions.{wrapped}
 use Rattle.rowsample.specs.declared.rescale.Power.{Power}
 use Rattle.rowsample.specs.Powers.{power_of, HasBounds}
-use Rattle.rowsample.proofs.Evidence.{checked_product}
+use Rattle.rowsample.proofs.ExactNumbers.{checked_product}
 
 -- a number from the least that a factor takes to an i64 to the greatest
 abbrev Within : ℕ → ℤ → Type 0

@@ -86,7 +86,7 @@ impl RowFn for CheckedAdd {
         Err(Fault::NotSerializable)
     }
 
-    #[tactic(auto, using(crate::proofs::Evidence::checked_sum))]
+    #[tactic(auto, using(crate::proofs::ExactNumbers::checked_sum))]
     fn dispatch<V: RowVisitor<CheckedAdd>>(
         &self,
         _options: &EmptyOptions,

@@ -175,7 +175,7 @@ fn known_power(scale: Option<u8>) -> Option<Power>
 
 /// A number times the power that is known, and else times that of the row's scale, modulo 2^64, and whether the product is no
 /// `i64`.
-#[tactic(auto, using(crate::proofs::Evidence::checked_product))]
+#[tactic(auto, using(crate::proofs::ExactNumbers::checked_product))]
 fn rescaled(power: Option<Power>, value: i64, scale: u8) -> (i64, bool)
     requires within { scale ≤ 18 }
     requires same { MatchOption power (Unit {0}) (λ p. p ≡ power_of scale) }

@@ -1,6 +1,6 @@
 use Rattle.std.proofs.Common.{rules, w64, FitsSigned}
 use Rattle.std.proofs.lemmas.Int.{to_z-of_z}
-use Rattle.rowsample.proofs.Evidence.{checked_step}
+use Rattle.rowsample.proofs.ExactNumbers.{checked_step}
 use Rattle.rowsample.proofs.truncate.stepped.Goals as goal
 
 pub returns : goal.returns
