@@ -48,7 +48,7 @@ def main():
                 if "--try" in sys.argv[1:]:
                     statuses, written = tried(example, number)
                     empty = statuses == {"4"} and written == ""
-                    good = empty or (statuses == {"0"} and written == wanted.stdout.decode())
+                    good = empty or (statuses == {str(wanted.returncode)} and written == wanted.stdout.decode())
                 else:
                     done = run(example, LD_PRELOAD=library, FAIL_AT=str(number))
                     empty = done.returncode == 4 and done.stdout == b"" and done.stderr == b""

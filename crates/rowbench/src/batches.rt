@@ -1,14 +1,13 @@
-// Whole calls of a row function.
-use crate::sum::Sum;
-use crate::sum_prepared::SumPrepared;
-use crate::sum_valid::SumValid;
+// Whole calls of row functions that don't fail, over columns that are made here.
 use crate::tuples::two_columns;
 use bitlane::BitBuffer;
 use colbase::{
     ArrayRef, Buffer, ConstantArray, EmptyOptions, ExecutionArgs, ExecutionCtx, NativeInt,
     Nullability, PType, PrimitiveArray, Res, Scalar, ScalarValue, Validity,
 };
+use rowcases::{SumPrepared, SumValid};
 use rowexec::execute_rows;
+use rowsample::WrappingAdd;
 use std::alloc::Global;
 
 /// The numbers 0, 1 and so on.
@@ -90,12 +89,13 @@ pub fn number_at(array: &ArrayRef, row: usize) -> i64 {
 pub fn executed_in_rounds(alloc: Global, rows: usize, rounds: usize, shape: u8) -> Res<i64> {
     let ctx = ExecutionCtx::new(alloc);
     let args = columns(rows, shape, ctx)?;
+    let prepared = SumPrepared::new();
     let mut total = 0i64;
     for round in 0..rounds {
         let sums = match shape {
-            4 => execute_rows(&SumPrepared, &EmptyOptions, &args, ctx)?,
+            4 => execute_rows(&prepared, &EmptyOptions, &args, ctx)?,
             5 | 6 => execute_rows(&SumValid, &EmptyOptions, &args, ctx)?,
-            _ => execute_rows(&Sum, &EmptyOptions, &args, ctx)?,
+            _ => execute_rows(&WrappingAdd, &EmptyOptions, &args, ctx)?,
         };
         total = total.wrapping_add(number_at(&sums, round));
     }

@@ -1,3 +1,4 @@
+// Conjunctions of bit buffers, without a row function.
 use bitlane::BitBuffer;
 use std::alloc::{AllocError, Global};
 

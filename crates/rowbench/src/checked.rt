@@ -1,4 +1,4 @@
-// Whole calls of functions whose failures are evidence.
+// Whole calls of the program's row functions whose failures are evidence.
 use crate::batches::{number_at, rising, tenths};
 use crate::tuples::two_columns;
 use colbase::{
@@ -6,7 +6,7 @@ use colbase::{
     ExtensionArray, Nullability, PType, PrimitiveArray, Res, Scalar, TimeUnit, Validity,
 };
 use rowexec::execute_rows;
-use rowrun::{CheckedAdd, Rescale, Truncate, TruncateOptions};
+use rowsample::{CheckedAdd, Rescale, Truncate, TruncateOptions};
 use rowtypes::{InputElement, TimestampRow};
 use std::alloc::{AllocError, Global};
 

@@ -8,11 +8,7 @@ mod batches;
 mod bits;
 mod checked;
 mod pairs;
-mod sum;
-mod sum_prepared;
-mod sum_valid;
 mod tuples;
-mod valid_number;
 
 use bitlane::map_into;
 use pairs::Pairs;

@@ -1,3 +1,4 @@
+// The source of the plainest loop: two slices, read by index.
 ghost use Rattle.std.specs.Prelude.{◌≡◌, length};
 
 use bitlane::IndexedSource;

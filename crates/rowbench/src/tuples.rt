@@ -1,8 +1,9 @@
+// The loop over a decoded tuple, without the plan and the column around it.
 ghost use Rattle.std.specs.Prelude.{◌≡◌, IfOk, [], ◌∷◌};
 ghost use Rattle.colbase.specs.Arrays.{dtype, len};
-ghost use Rattle.colbase.specs.LogicalType.{primitive};
-ghost use Rattle.colbase.specs.declared.dtype.Nullability.TheVariants.{NonNullable};
-ghost use Rattle.colbase.specs.declared.dtype.PType.TheVariants.{I64};
+ghost use Rattle.coltypes.specs.LogicalType.{primitive};
+ghost use Rattle.coltypes.specs.declared.dtype.Nullability.TheVariants.{NonNullable};
+ghost use Rattle.coltypes.specs.declared.dtype.PType.TheVariants.{I64};
 
 use colbase::{
     ArrayRef, Buffer, ConstantArray, ExecutionCtx, Nullability, PType, PrimitiveArray, Res, Scalar,

@@ -2,14 +2,14 @@
 use Rattle.std.proofs.Common.{◌≡◌, ◌∙◌, ℕ, Bool, true, false, ◌||◌, List, ◌∷◌, Option, None, Some, refl, ap, sym}
 use Rattle.std.specs.Prelude.{is_some}
 use Rattle.colbase.specs.Arrays.{Array, dtype, row}
-use Rattle.colbase.specs.Cell.{Cell}
-use Rattle.colbase.specs.Fits.{is_nullable}
-use Rattle.colbase.specs.LogicalType.{nullability_of}
-use Rattle.colbase.specs.Valid.{valid_at, validity_kind, validity_nullability}
-use Rattle.colbase.specs.declared.dtype.Nullability.TheVariants.{Nullable}
-use Rattle.colbase.specs.declared.validity.Validity.{Validity}
-use Rattle.colbase.specs.declared.validity.Validity.TheVariants as v
-use Rattle.colbase.specs.declared.validity.ValidityKind.TheVariants.{AllNull}
+use Rattle.coltypes.specs.Cell.{Cell}
+use Rattle.coltypes.specs.Fits.{is_nullable}
+use Rattle.coltypes.specs.LogicalType.{nullability_of}
+use Rattle.coltypes.specs.Valid.{valid_at, validity_kind, validity_nullability}
+use Rattle.coltypes.specs.declared.dtype.Nullability.TheVariants.{Nullable}
+use Rattle.coltypes.specs.declared.validity.Validity.{Validity}
+use Rattle.coltypes.specs.declared.validity.Validity.TheVariants as v
+use Rattle.coltypes.specs.declared.validity.ValidityKind.TheVariants.{AllNull}
 use Rattle.rowplan.specs.Outputs.{any_nullable}
 use Rattle.rowexec.specs.Rows.{full_cells, types_of, with_cell}
 

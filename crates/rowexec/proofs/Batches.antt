@@ -3,14 +3,15 @@ use Rattle.std.proofs.Common.{◌≡◌, ◌∙◌, ℕ, suc, Bool, true, ◌&&�
 use Rattle.std.specs.Prelude.{◌↔◌}
 use Rattle.std.proofs.lemmas.Bool.Decides.{nat_tests}
 use Rattle.colbase.specs.Arrays.{Array, dtype, len}
-use Rattle.colbase.specs.Cell.{Cell}
-use Rattle.colbase.specs.LogicalType.{LogicalType}
-use Rattle.colbase.specs.LogicalTypeOf.{logical_type}
-use Rattle.colbase.specs.declared.dtype.DType.{DType}
-use Rattle.colbase.specs.declared.fault.Fault.{Fault}
-use Rattle.rowtypes.specs.Reading.{Unread}
-use Rattle.rowtypes.specs.Rows.{logical_types, AcceptsFrom, DecodeFails, FirstUnread, decoded_lengths, each_length, is_length, length_unless, shown_from}
-use Rattle.rowtypes.specs.Shown.{batch_value}
+use Rattle.coltypes.specs.Cell.{Cell}
+use Rattle.coltypes.specs.LogicalType.{LogicalType}
+use Rattle.coltypes.specs.LogicalTypeOf.{logical_type}
+use Rattle.coltypes.specs.declared.dtype.DType.{DType}
+use Rattle.coltypes.specs.declared.fault.Fault.{Fault}
+use Rattle.rowelems.specs.Reading.{Unread}
+use Rattle.rowtypes.specs.Rows.{logical_types, AcceptsFrom, DecodeFails, FirstUnread, decoded_lengths, each_length, shown_from}
+use Rattle.rowelems.specs.Argument.{is_length, length_unless}
+use Rattle.rowelems.specs.Shown.{batch_value}
 use Rattle.rowexec.specs.Rows.{EachHasRows, types_of}
 
 pub as_many_types : (arrays : List Array) → length (types_of arrays) ≡ length arrays

@@ -3,8 +3,8 @@ use Rattle.std.proofs.Common.{◌≡◌, ℕ, ◌<◌, Result, Ok, Err}
 use Rattle.std.specs.Prelude.{IfOk}
 use Rattle.colbase.specs.Arrays.{Array, len, row}
 use Rattle.colbase.specs.Casts.{Casts}
-use Rattle.colbase.specs.declared.dtype.Nullability.TheVariants.{Nullable}
-use Rattle.colbase.specs.declared.fault.Fault.{Fault}
+use Rattle.coltypes.specs.declared.dtype.Nullability.TheVariants.{Nullable}
+use Rattle.coltypes.specs.declared.fault.Fault.{Fault}
 use Rattle.rowexec.proofs.Tables.{len_of_table, row_of_table}
 
 pub cast_len : (r : Result Array Fault) (a : Array) → Casts r a Nullable → IfOk r (λ b. len b ≡ len a)

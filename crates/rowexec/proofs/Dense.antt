@@ -1,9 +1,9 @@
 -- A column of the answers to all rows is that of the outcomes.
 use Rattle.std.proofs.Common.{◌≡◌, ◌∙◌, ℕ, ◌<◌, List, Option, None, Some, ap, sym}
 use Rattle.colbase.specs.Arrays.{Array, dtype, len, row}
-use Rattle.colbase.specs.Cell.{Cell}
-use Rattle.colbase.specs.LogicalType.{LogicalType}
-use Rattle.rowtypes.specs.Outputs.{StatesAnswer}
+use Rattle.coltypes.specs.Cell.{Cell}
+use Rattle.coltypes.specs.LogicalType.{LogicalType}
+use Rattle.rowouts.specs.Outputs.{StatesAnswer}
 use Rattle.rowtypes.specs.Rows.{shown_from}
 use Rattle.rowplan.specs.Outcomes.{Outcome, done}
 use Rattle.rowexec.specs.Rows.{Accepted}

@@ -4,10 +4,11 @@ use Rattle.std.specs.Prelude.{is_some}
 use Rattle.bitlane.specs.Bits.{bit}
 use Rattle.bitlane.proofs.Tables.{get_or-tabulate, length-tabulate}
 use Rattle.colbase.specs.Arrays.{Array, len, row, rows}
-use Rattle.colbase.specs.Cell.{Cell}
-use Rattle.colbase.specs.Keep.{Filters, keep, place, trues}
-use Rattle.colbase.specs.LogicalType.{LogicalType}
-use Rattle.colbase.specs.declared.fault.Fault.{Fault}
+use Rattle.coltypes.specs.Cell.{Cell}
+use Rattle.colbase.specs.Selects.{Filters}
+use Rattle.coltypes.specs.Keep.{keep, place, trues}
+use Rattle.coltypes.specs.LogicalType.{LogicalType}
+use Rattle.coltypes.specs.declared.fault.Fault.{Fault}
 use Rattle.rowtypes.specs.Rows.{DecodeFails, FirstUnread}
 use Rattle.rowplan.specs.Outcomes.{Outcome}
 use Rattle.rowexec.specs.Reads.{ReadFails, UnreadAt}
@@ -16,8 +17,8 @@ use Rattle.rowexec.specs.Rows.{Accepted, EachHasRows, full_cells, types_of, with
 use Rattle.rowexec.specs.Selections.{FilteredFrom}
 use Rattle.rowexec.specs.Visits.{FilteredColumn, FullAt, RanRows, ValidColumn}
 use Rattle.rowexec.proofs.JoinedRows.{joined_marked}
-use Rattle.rowexec.proofs.Selecting.{full_at}
-use Rattle.rowexec.proofs.SetPlaces.{place_of, place_within}
+use Rattle.rowexec.proofs.Reading.{full_at}
+use Rattle.rowloops.proofs.SetPlaces.{place_of, place_within}
 use Rattle.rowexec.proofs.Unread.{ran_weaker}
 
 pub rows_at : (n : ℕ) (arrays : List Array) (i : ℕ) (d : Array) → EachHasRows n arrays → i < length arrays → len (get_or arrays i d) ≡ n
@@ -95,7 +96,7 @@ MarksFull marks columns = (i : ℕ) → i < length marks → bit marks i ≡ is_
 
 -- each row of the filtered columns is full
 pub full_kept : (marks : List Bool) (olds news : List Array) → EachHasRows (length marks) olds → MarksFull marks olds → FilteredFrom marks olds news → (i : ℕ) → i < trues marks → FullAt i news
-full_kept marks olds news n m h i k = full_at (trues marks) news i (rows_kept marks olds news n h) k (ap is_some (cells_kept marks olds news i n h k) ∙ sym (m (place marks i) (place_within marks i k)) ∙ place_marked marks i k)
+full_kept marks olds news n m h i k = full_at (trues marks) i news (rows_kept marks olds news n h) k (ap is_some (cells_kept marks olds news i n h k) ∙ sym (m (place marks i) (place_within marks i k)) ∙ place_marked marks i k)
 
 unread_kept : (marks : List Bool) (reads : ℕ → Cell → Type 0) (k : ℕ) (olds news : List Array) (j : ℕ) → FilteredFrom marks olds news → FirstUnread reads k news j → UnreadAt reads k olds j
 unread_kept marks reads k [] [] j h p = p

@@ -2,12 +2,12 @@
 use Rattle.std.proofs.Common.{◌≡◌, ◌∙◌, ℕ, suc, Bool, true, false, List, [], ◌∷◌, Option, None, Some, refl}
 use Rattle.std.specs.Prelude.{cond, nat_lt, option_map}
 use Rattle.colbase.specs.Arrays.{Array, constant, constant_cell, extension, len, masked, row}
-use Rattle.colbase.specs.Cell.{Cell}
-use Rattle.colbase.specs.CellOf.{cell_of}
-use Rattle.colbase.specs.Valid.{valid_at}
+use Rattle.coltypes.specs.Cell.{Cell}
+use Rattle.coltypes.specs.CellOf.{cell_of}
+use Rattle.coltypes.specs.Valid.{valid_at}
 use Rattle.rowtypes.specs.Arguments.{ShowsConstant, ShowsRow}
 use Rattle.rowtypes.specs.Rows.{shown_from}
-use Rattle.rowtypes.specs.Shown.{batch_value}
+use Rattle.rowelems.specs.Shown.{batch_value}
 use Rattle.rowexec.specs.Rows.{full_cells, with_cell}
 
 under_mask : (b : Bool) (o : Option Cell) (x c : Cell) → o ≡ Some x → cond b o None ≡ Some c → x ≡ c

@@ -2,9 +2,9 @@
 use Rattle.std.proofs.Common.{◌≡◌, ◌∙◌, ℕ, ◌<◌, Bool, true, List, length, Option, None, Some, ap, sym, subst, refl}
 use Rattle.std.specs.Prelude.{is_some}
 use Rattle.colbase.specs.Arrays.{Array, dtype, len, row}
-use Rattle.colbase.specs.Cell.{Cell}
-use Rattle.colbase.specs.Keep.{place, trues}
-use Rattle.colbase.specs.LogicalType.{LogicalType}
+use Rattle.coltypes.specs.Cell.{Cell}
+use Rattle.coltypes.specs.Keep.{place, trues}
+use Rattle.coltypes.specs.LogicalType.{LogicalType}
 use Rattle.rowtypes.specs.Rows.{shown_from}
 use Rattle.rowplan.specs.Outcomes.{Outcome}
 use Rattle.rowexec.specs.Evidence.{shown_cells}

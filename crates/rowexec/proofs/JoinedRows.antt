@@ -3,8 +3,8 @@ use Rattle.std.proofs.Common.{◌≡◌, ◌∙◌, ℕ, zero, suc, ◌<◌, Boo
 use Rattle.std.specs.Prelude.{is_some}
 use Rattle.bitlane.specs.Bits.{bit}
 use Rattle.bitlane.specs.Evidence.{JoinLaws}
-use Rattle.colbase.specs.Cell.{Cell}
-use Rattle.colbase.specs.Keep.{place, trues}
+use Rattle.coltypes.specs.Cell.{Cell}
+use Rattle.coltypes.specs.Keep.{place, trues}
 use Rattle.rowplan.specs.Outcomes.{EvidenceIs, Outcome, done, failed}
 use Rattle.rowexec.specs.Evidence.{evidence_of, joined, joined_with}
 

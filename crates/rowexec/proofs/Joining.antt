@@ -4,9 +4,9 @@ use Rattle.std.specs.Prelude.{◌⊎◌, is_some}
 use Rattle.std.proofs.lemmas.Bool.{cases_eq}
 use Rattle.bitlane.specs.Evidence.{JoinLaws}
 use Rattle.bitlane.specs.Maps.{Joined, none, more, skip}
-use Rattle.colbase.specs.Cell.{Cell}
+use Rattle.coltypes.specs.Cell.{Cell}
 use Rattle.rowplan.specs.Outcomes.{EvidenceIs, FinishLaws, Outcome, done}
-use Rattle.rowexec.specs.Answers.{StatesChecked}
+use Rattle.rowloops.specs.Answers.{StatesChecked}
 use Rattle.rowexec.specs.Evidence.{joined, joined_with}
 use Rattle.rowexec.specs.Rows.{Accepted}
 

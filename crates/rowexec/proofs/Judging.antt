@@ -2,17 +2,17 @@
 use Rattle.std.proofs.Common.{◌≡◌, ◌∙◌, ℕ, Bool, true, List, Option, None, Some, inr, refl, sym, subst, ap, arith}
 use Rattle.std.specs.Prelude.{◌⊎◌, ◌≤◌, ⊤, Result, Ok, Err, IfOk, IfErr}
 use Rattle.colbase.specs.Arrays.{Array}
-use Rattle.colbase.specs.Cell.{Cell}
-use Rattle.colbase.specs.LogicalType.{LogicalType}
-use Rattle.colbase.specs.declared.fault.Fault.{Fault}
-use Rattle.colbase.specs.declared.fault.Fault.TheVariants.{Row}
-use Rattle.colbase.specs.declared.fault.RowError.{RowError}
+use Rattle.coltypes.specs.Cell.{Cell}
+use Rattle.coltypes.specs.LogicalType.{LogicalType}
+use Rattle.coltypes.specs.declared.fault.Fault.{Fault}
+use Rattle.coltypes.specs.declared.fault.Fault.TheVariants.{Row}
+use Rattle.coltypes.specs.declared.fault.RowError.{RowError}
 use Rattle.rowplan.specs.Outcomes.{Outcome, judged}
-use Rattle.rowexec.specs.Answers.{AttemptIs, Judges}
+use Rattle.rowloops.specs.Answers.{AttemptIs, Judges}
 use Rattle.rowexec.specs.Evidence.{EvidenceFails, joined, shown_cells}
 use Rattle.rowexec.specs.Visits.{Attempted, DenseColumn, RanRows, ShowsFull}
-use Rattle.rowexec.specs.declared.execute.retry.DenseAttempt.{DenseAttempt}
-use Rattle.rowexec.specs.declared.execute.retry.DenseAttempt.TheVariants.{DeferredError, Values}
+use Rattle.rowloops.specs.declared.retry.DenseAttempt.{DenseAttempt}
+use Rattle.rowloops.specs.declared.retry.DenseAttempt.TheVariants.{DeferredError, Values}
 
 -- what holds of the value of an answer that has this one
 pub of_ok : {X E : Type 0} (P : X → Type 0) (r : Result X E) (x : X) → r ≡ Ok x → IfOk r P → P x

@@ -3,13 +3,13 @@ use Rattle.std.proofs.Common.{◌≡◌, ℕ, suc, ◌<◌, Bool, true, false, L
 use Rattle.std.proofs.lemmas.Bool.Decides.{nat_tests}
 use Rattle.std.specs.Prelude.{nat_lt, if◌then◌else◌, Result, Ok, Err, IfOk, IfErr, ◌≤◌, ◌⊎◌}
 use Rattle.colbase.specs.Arrays.{Array, MustRead, constant_cell, dtype, len, row}
-use Rattle.colbase.specs.Cell.{Cell}
-use Rattle.colbase.specs.LogicalType.{LogicalType}
-use Rattle.colbase.specs.declared.fault.Fault.{Fault}
-use Rattle.colbase.specs.declared.fault.Fault.TheVariants.{Memory}
-use Rattle.rowtypes.specs.Outputs.{StatesAnswer}
+use Rattle.coltypes.specs.Cell.{Cell}
+use Rattle.coltypes.specs.LogicalType.{LogicalType}
+use Rattle.coltypes.specs.declared.fault.Fault.{Fault}
+use Rattle.coltypes.specs.declared.fault.Fault.TheVariants.{Memory}
+use Rattle.rowouts.specs.Outputs.{StatesAnswer}
 use Rattle.rowtypes.specs.Rows.{AgreesWith, DecodeFails, ReadsAllFrom, ReadsKnown, batch_values, shown_from}
-use Rattle.rowtypes.specs.Shown.{batch_value}
+use Rattle.rowelems.specs.Shown.{batch_value}
 use Rattle.rowplan.specs.Outcomes.{Outcome, done}
 use Rattle.rowexec.specs.Visits.{DenseColumn, RanRows, ShowsFull}
 use Rattle.rowexec.proofs.Dense.{dense_column}

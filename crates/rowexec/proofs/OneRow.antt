@@ -4,17 +4,18 @@ use Rattle.std.proofs.lemmas.Bool.Decides.{nat_tests}
 use Rattle.std.specs.Prelude.{IfErr, IfOk, MatchResult, cond, is_some, nat_lt, option_map}
 use Rattle.bitlane.specs.Evidence.{JoinLaws}
 use Rattle.colbase.specs.Arrays.{Array, constant, constant_cell, dtype, extension, len, masked, row}
-use Rattle.colbase.specs.Cell.{Cell}
-use Rattle.colbase.specs.CellOf.{cell_of}
-use Rattle.colbase.specs.LogicalType.{LogicalType}
+use Rattle.coltypes.specs.Cell.{Cell}
+use Rattle.coltypes.specs.CellOf.{cell_of}
+use Rattle.coltypes.specs.LogicalType.{LogicalType}
 use Rattle.colbase.specs.Parts.{own_validity}
-use Rattle.colbase.specs.Valid.{valid_at, validity_kind}
-use Rattle.colbase.specs.declared.fault.Fault.{Fault}
-use Rattle.colbase.specs.declared.fault.Fault.TheVariants.{Memory}
-use Rattle.colbase.specs.declared.validity.Validity.{Validity}
-use Rattle.colbase.specs.declared.validity.Validity.TheVariants as v
-use Rattle.rowtypes.specs.Rows.{decoded_lengths, each_length, is_length, length_unless, shown_from}
-use Rattle.rowtypes.specs.Shown.{batch_value}
+use Rattle.coltypes.specs.Valid.{valid_at, validity_kind}
+use Rattle.coltypes.specs.declared.fault.Fault.{Fault}
+use Rattle.coltypes.specs.declared.fault.Fault.TheVariants.{Memory}
+use Rattle.coltypes.specs.declared.validity.Validity.{Validity}
+use Rattle.coltypes.specs.declared.validity.Validity.TheVariants as v
+use Rattle.rowtypes.specs.Rows.{decoded_lengths, each_length, shown_from}
+use Rattle.rowelems.specs.Argument.{is_length, length_unless}
+use Rattle.rowelems.specs.Shown.{batch_value}
 use Rattle.rowplan.specs.Outcomes.{EvidenceIs, Outcome}
 use Rattle.rowexec.specs.Counts.{each_one_value, is_no_nulls, is_one_value, one_row, some_column}
 use Rattle.rowexec.specs.Evidence.{EvidenceFails, joined}
@@ -23,7 +24,8 @@ use Rattle.rowexec.specs.Visits.{DenseColumn, RanRows}
 use Rattle.rowexec.proofs.Batches.{both_are}
 use Rattle.rowexec.proofs.FullRows.{picked}
 use Rattle.rowexec.proofs.JoinedRows.{joined_first}
-use Rattle.rowexec.proofs.Results.{err_then, match_result, ok_then, three_then}
+use Rattle.rowexec.proofs.Results.{err_then, match_result, three_then}
+use Rattle.rowloops.proofs.Results.{ok_then}
 
 pub both_parts : (a b : Bool) → (a && b) ≡ true → (a ≡ true) × (b ≡ true)
 both_parts true b h = (refl, h)

@@ -2,10 +2,11 @@
 use Rattle.std.proofs.Common.{◌≡◌, ◌∙◌, ℕ, suc, ◌<◌, Bool, true, false, List, [], ◌∷◌, Option, None, Some, inl, inr, ap, refl, sym, subst, arith}
 use Rattle.std.specs.Prelude.{IsSome, is_some}
 use Rattle.colbase.specs.Arrays.{Array, len, row}
-use Rattle.colbase.specs.Cell.{Cell}
+use Rattle.coltypes.specs.Cell.{Cell}
 use Rattle.rowtypes.specs.Arguments.{ShowsConstant, ShowsRow}
-use Rattle.rowtypes.specs.Rows.{ReadsAll, ReadsAllFrom, ReadsFrom, shown_from}
-use Rattle.rowtypes.specs.Shown.{batch_value}
+use Rattle.rowelems.specs.Argument.{ReadsAll}
+use Rattle.rowtypes.specs.Rows.{ReadsAllFrom, ReadsFrom, shown_from}
+use Rattle.rowelems.specs.Shown.{batch_value}
 use Rattle.rowplan.specs.Policies.{deferred_policy, owned_policy}
 use Rattle.rowplan.specs.declared.batch_plan.RowPolicy.{RowPolicy}
 use Rattle.rowplan.specs.declared.batch_plan.RowPolicy.TheVariants.{Dense}

@@ -14,10 +14,6 @@ pub err_then : {A E : Type 0} (r : Result A E) (P Q : E → Type 0) → IfErr r 
 err_then (Ok x) P Q p f = tt
 err_then (Err e) P Q p f = f e p
 
-pub ok_then : {A E : Type 0} (P Q : A → Type 0) (r : Result A E) → ((x : A) → P x → Q x) → IfOk r P → IfOk r Q
-ok_then P Q (Ok x) f h = f x h
-ok_then P Q (Err e) f h = tt
-
 -- what holds of the value of an option that has this one
 pub of_some : {X : Type 0} (P : X → Type 0) (o : Option X) (x : X) → o ≡ Some x → IfSome o P → P x
 of_some P None x e h = absurd (cc)

@@ -4,12 +4,12 @@ use Rattle.std.proofs.lemmas.Bool.Decides.{nat_tests}
 use Rattle.std.specs.Prelude.{IsSome, is_some, nat_lt}
 use Rattle.bitlane.specs.Bits.{bit, tabulate}
 use Rattle.colbase.specs.Arrays.{Array, len, row}
-use Rattle.colbase.specs.Cell.{Cell}
-use Rattle.colbase.specs.Keep.{trues}
-use Rattle.colbase.specs.LogicalType.{LogicalType}
+use Rattle.coltypes.specs.Cell.{Cell}
+use Rattle.coltypes.specs.Keep.{trues}
+use Rattle.coltypes.specs.LogicalType.{LogicalType}
 use Rattle.colbase.specs.Parts.{own_validity}
-use Rattle.colbase.specs.Valid.{validity_kind}
-use Rattle.rowtypes.specs.Shown.{batch_value}
+use Rattle.coltypes.specs.Valid.{validity_kind}
+use Rattle.rowelems.specs.Shown.{batch_value}
 use Rattle.rowplan.specs.Outcomes.{Outcome}
 use Rattle.rowplan.specs.declared.batch_plan.RowPolicy.{RowPolicy}
 use Rattle.rowplan.specs.declared.batch_plan.RowPolicy.TheVariants.{Dense, DenseWithRetry, ValidOnly}

@@ -2,9 +2,9 @@
 use Rattle.std.proofs.Common.{◌≡◌, ◌≤◌, ℕ, Bool, List, arith, Option, Some, Result, Ok, Err, ◌⊎◌, inl, inr, sym, subst}
 use Rattle.std.specs.Prelude.{IfErr, IfOk, MatchOption, MatchResult}
 use Rattle.colbase.specs.Arrays.{Array}
-use Rattle.colbase.specs.Cell.{Cell}
-use Rattle.colbase.specs.LogicalType.{LogicalType}
-use Rattle.colbase.specs.declared.fault.Fault.{Fault}
+use Rattle.coltypes.specs.Cell.{Cell}
+use Rattle.coltypes.specs.LogicalType.{LogicalType}
+use Rattle.coltypes.specs.declared.fault.Fault.{Fault}
 use Rattle.rowtypes.specs.Rows.{DecodeFails}
 use Rattle.rowplan.specs.Outcomes.{Outcome}
 use Rattle.rowexec.specs.Evidence.{EvidenceFails, joined}

@@ -3,15 +3,16 @@ use Rattle.std.proofs.Common.{◌≡◌, ◌∙◌, ℕ, zero, suc, ◌<◌, ◌
 use Rattle.std.specs.Prelude.{is_some, IsSome}
 use Rattle.bitlane.specs.Bits.{bit}
 use Rattle.colbase.specs.Arrays.{Array, row}
-use Rattle.colbase.specs.Cell.{Cell}
-use Rattle.colbase.specs.Keep.{trues}
-use Rattle.colbase.specs.Valid.{valid_at}
-use Rattle.colbase.specs.declared.validity.Validity.{Validity}
+use Rattle.coltypes.specs.Cell.{Cell}
+use Rattle.coltypes.specs.Keep.{trues}
+use Rattle.coltypes.specs.Valid.{valid_at}
+use Rattle.coltypes.specs.declared.validity.Validity.{Validity}
 use Rattle.rowplan.specs.declared.batch_plan.RowPolicy.{RowPolicy}
 use Rattle.rowexec.specs.Counts.{one_row, runs_valid_only}
 use Rattle.rowexec.specs.Rows.{EachHasRows, full_cells, with_cell}
 use Rattle.rowexec.specs.Selections.{Selected, SelectedValid}
 use Rattle.rowexec.specs.Visits.{FullAt}
+use Rattle.rowexec.proofs.Reading.{full_at}
 use Rattle.rowexec.specs.declared.batch.selection.Selection.{Selection}
 use Rattle.rowexec.specs.declared.batch.selection.Selection.TheVariants as s
 
@@ -49,27 +50,15 @@ some_unmarked (true ∷ bits) q = omega (arith, some_unmarked bits (λ h. q (lat
     later h zero b = refl
     later h (suc i) b = h i (omega (arith, b))
 
-full_here : (o : Option Cell) (rest : Option (List Cell)) → is_some (with_cell o rest) ≡ true → (IsSome o) × (is_some rest ≡ true)
-full_here (Some c) (Some cells) h = (refl, refl)
-full_here (Some c) None h = absurd (cc)
-full_here None rest h = absurd (cc)
-
--- a row at which no argument is null
-pub full_at : (n : ℕ) (arrays : List Array) (i : ℕ) → EachHasRows n arrays → i < n → is_some (full_cells arrays i) ≡ true → FullAt i arrays
-full_at n [] i r h t = tt
-full_at n (a ∷ arrays) i r h t =
-    let p = full_here (row a i) (full_cells arrays i) t in
-    (omega (arith, r.0), p.0, full_at n arrays i r.1 h p.1)
-
 -- all rows may run where each is valid
 pub all_valid : (policy : RowPolicy) (n : ℕ) (columns : List Array) (full : Validity) → one_row n columns ≡ false → EachHasRows n columns → ((i : ℕ) → i < n → valid_at full i ≡ is_some (full_cells columns i)) → ((i : ℕ) → i < n → valid_at full i ≡ true) → Selected policy n columns s.All
-all_valid policy n columns full o r t h = (o, inr (λ i k. full_at n columns i r k (sym (t i k) ∙ h i k)))
+all_valid policy n columns full o r t h = (o, inr (λ i k. full_at n i columns r k (sym (t i k) ∙ h i k)))
 
 -- the rows that run where only those without a null argument may, of a batch for which no row stands for all
 pub selected : (policy : RowPolicy) (n : ℕ) (columns : List Array) (full : Validity) (chosen : Selection) → runs_valid_only policy ≡ true → one_row n columns ≡ false → EachHasRows n columns → ((i : ℕ) → i < n → valid_at full i ≡ is_some (full_cells columns i)) → SelectedValid full n chosen → Selected policy n columns chosen
 selected policy n columns full s.One p o r t h = absurd h
 selected policy n columns full s.Attempt p o r t h = absurd h
-selected policy n columns full s.All p o r t h = (o, inr (λ i k. full_at n columns i r k (sym (t i k) ∙ h i k)))
+selected policy n columns full s.All p o r t h = (o, inr (λ i k. full_at n i columns r k (sym (t i k) ∙ h i k)))
 selected policy n columns full (s.Valid marks) p o r t h = (o, p, h.0, (λ i k. h.1 i k ∙ t i k), h.2)
 selected policy n columns full s.Nothing p o r t h = (o, p, h.1, λ i k. sym (t i k) ∙ h.0 i k)
 

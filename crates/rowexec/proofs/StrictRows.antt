@@ -4,21 +4,17 @@ use Rattle.std.specs.Prelude.{is_some, cond, ◌==◌}
 use Rattle.std.proofs.Common.{arith}
 use Rattle.std.proofs.lemmas.Bool.Decides.{nat_tests}
 use Rattle.colbase.specs.Arrays.{Array, dtype, len}
-use Rattle.colbase.specs.Cell.{Cell}
-use Rattle.colbase.specs.LogicalType.{LogicalType, bool, binary, extension, fixed_size_list, list, null, nullability_of, primitive, utf8, with_nullability}
-use Rattle.colbase.specs.declared.dtype.DType.{DType}
-use Rattle.colbase.specs.declared.dtype.Nullability.TheVariants.{Nullable, NonNullable}
-use Rattle.colbase.specs.declared.fault.Fault.{Fault}
+use Rattle.coltypes.specs.Cell.{Cell}
+use Rattle.coltypes.specs.LogicalType.{LogicalType, bool, binary, extension, fixed_size_list, list, null, nullability_of, primitive, utf8, with_nullability}
+use Rattle.coltypes.specs.declared.dtype.DType.{DType}
+use Rattle.coltypes.specs.declared.dtype.Nullability.TheVariants.{Nullable, NonNullable}
+use Rattle.coltypes.specs.declared.fault.Fault.{Fault}
 use Rattle.rowtypes.specs.Rows.{AcceptsFrom, first_refused, logical_types}
 use Rattle.rowplan.specs.Outcomes.{Outcome}
 use Rattle.rowplan.specs.Outputs.{InOrder, any_nullable, made_nullable, output_type, stated_type}
 use Rattle.rowexec.specs.Masks.{null_unless}
 use Rattle.rowexec.specs.Rows.{Accepted, EachHasRows, StrictRow, types_of, wrong_length}
 use Rattle.rowexec.proofs.Masking.{nullable_made}
-
-pub as_many : (types : List DType) → length (logical_types types) ≡ length types
-as_many [] = refl
-as_many (t ∷ types) = ap suc (as_many types)
 
 pub strict_row : {E : Type 0} (finish : E → Option ℕ) (meaning : List Cell → Outcome E) (cells : Option (List Cell)) (b : Bool) (r w : Option Cell) → b ≡ is_some cells → r ≡ null_unless b w → ((cs : List Cell) → cells ≡ Some cs → Accepted finish (meaning cs) w) → StrictRow finish meaning cells r
 strict_row finish meaning None b r w hb hr d = hr ∙ ap (λ t. null_unless t w) hb

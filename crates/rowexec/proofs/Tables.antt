@@ -3,7 +3,7 @@ use Rattle.std.proofs.Common.{◌≡◌, ◌∙◌, ℕ, ◌<◌, length, get_or
 use Rattle.bitlane.specs.Bits.{tabulate}
 use Rattle.bitlane.proofs.Tables.{get_or-tabulate, length-tabulate}
 use Rattle.colbase.specs.Arrays.{Array, len, row, rows}
-use Rattle.colbase.specs.Cell.{Cell}
+use Rattle.coltypes.specs.Cell.{Cell}
 
 pub len_of_table : (a : Array) (f : ℕ → Option Cell) (n : ℕ) → rows a ≡ tabulate f n → len a ≡ n
 len_of_table a f n e = sym (length-tabulate (row a) (len a)) ∙ ap length e ∙ length-tabulate f n

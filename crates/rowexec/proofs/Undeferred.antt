@@ -3,14 +3,14 @@ use Rattle.std.proofs.Common.{◌≡◌, ◌∙◌, ℕ, zero, suc, Bool, true, 
 use Rattle.std.specs.Prelude.{◌⊎◌, MatchResult, Result, Ok, Err}
 use Rattle.bitlane.specs.Evidence.{JoinLaws}
 use Rattle.colbase.specs.Arrays.{Array}
-use Rattle.colbase.specs.Cell.{Cell}
-use Rattle.colbase.specs.LogicalType.{LogicalType}
-use Rattle.colbase.specs.declared.fault.Fault.{Fault}
+use Rattle.coltypes.specs.Cell.{Cell}
+use Rattle.coltypes.specs.LogicalType.{LogicalType}
+use Rattle.coltypes.specs.declared.fault.Fault.{Fault}
 use Rattle.rowplan.specs.Outcomes.{EvidenceIs, Outcome, done, failed}
 use Rattle.rowexec.specs.Evidence.{EvidenceFails, evidence_of, joined, joined_with, shown_cells}
 use Rattle.rowexec.specs.Visits.{Attempted, DenseColumn, RanRows}
-use Rattle.rowexec.specs.declared.execute.retry.DenseAttempt.{DenseAttempt}
-use Rattle.rowexec.specs.declared.execute.retry.DenseAttempt.TheVariants.{Values}
+use Rattle.rowloops.specs.declared.retry.DenseAttempt.{DenseAttempt}
+use Rattle.rowloops.specs.declared.retry.DenseAttempt.TheVariants.{Values}
 
 evidence_is : {E : Type 0} (neutral : E) (o : Outcome E) → EvidenceIs (λ e. e ≡ neutral) o → evidence_of neutral o ≡ neutral
 evidence_is neutral (done c e) h = h

@@ -3,8 +3,8 @@ use Rattle.std.proofs.Common.{◌≡◌, ◌∙◌, ◌≤◌, ℕ, suc, List, [
 use Rattle.std.specs.Prelude.{IfOk, IfSome, MatchOption, MatchResult}
 use Rattle.std.proofs.lemmas.Result.{MatchResult-weaker}
 use Rattle.colbase.specs.Arrays.{Array}
-use Rattle.colbase.specs.Cell.{Cell}
-use Rattle.colbase.specs.declared.fault.Fault.{Fault}
+use Rattle.coltypes.specs.Cell.{Cell}
+use Rattle.coltypes.specs.declared.fault.Fault.{Fault}
 use Rattle.rowtypes.specs.Rows.{DecodeFails, FirstUnread}
 use Rattle.rowexec.specs.Reads.{ReadFails, UnreadAt}
 use Rattle.rowexec.specs.Visits.{RanOrDeclined, RanRows}

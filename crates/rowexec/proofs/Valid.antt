@@ -3,13 +3,13 @@ use Rattle.std.proofs.Common.{◌≡◌, ◌∙◌, ℕ, ◌<◌, Bool, true, Li
 use Rattle.std.specs.Prelude.{◌≤◌, ◌⊎◌, Result, Ok, Err, IfOk, IfErr, MatchResult, count_by, is_some}
 use Rattle.bitlane.specs.Bits.{bit}
 use Rattle.colbase.specs.Arrays.{Array, dtype, len, row}
-use Rattle.colbase.specs.Cell.{Cell}
-use Rattle.colbase.specs.Keep.{place, trues}
-use Rattle.colbase.specs.LogicalType.{LogicalType}
-use Rattle.colbase.specs.declared.fault.Fault.{Fault}
-use Rattle.colbase.specs.declared.fault.Fault.TheVariants.{Memory}
+use Rattle.coltypes.specs.Cell.{Cell}
+use Rattle.coltypes.specs.Keep.{place, trues}
+use Rattle.coltypes.specs.LogicalType.{LogicalType}
+use Rattle.coltypes.specs.declared.fault.Fault.{Fault}
+use Rattle.coltypes.specs.declared.fault.Fault.TheVariants.{Memory}
 use Rattle.colbase.proofs.KeptRows.{trues-count_by}
-use Rattle.rowtypes.specs.Outputs.{StatesAnswer}
+use Rattle.rowouts.specs.Outputs.{StatesAnswer}
 use Rattle.rowtypes.specs.Rows.{DecodeFails}
 use Rattle.rowplan.specs.Outcomes.{Outcome, done}
 use Rattle.rowexec.specs.Rows.{full_cells}

@@ -1,10 +1,11 @@
--- What a batch call answers, and why it refuses.
+-- What a batch call answers, and why it refuses. A cause is a sum in the order of the checks, each part under what held before it, so
+-- that the arguments determine which fault is told.
 use Rattle.std.specs.Prelude.{◌≡◌, ◌≢◌, ℕ, Bool, true, false, List, length, None, Some, ◌⊎◌}
 use Rattle.colbase.specs.Arrays.{Array}
-use Rattle.colbase.specs.Cell.{Cell}
-use Rattle.colbase.specs.LogicalType.{LogicalType}
-use Rattle.colbase.specs.declared.fault.Fault.{Fault}
-use Rattle.colbase.specs.declared.fault.Fault.TheVariants.{Arity, Dtype, Memory, OutputType, Refused}
+use Rattle.coltypes.specs.Cell.{Cell}
+use Rattle.coltypes.specs.LogicalType.{LogicalType}
+use Rattle.coltypes.specs.declared.fault.Fault.{Fault}
+use Rattle.coltypes.specs.declared.fault.Fault.TheVariants.{Arity, Dtype, Memory, OutputType, Refused}
 use Rattle.rowtypes.specs.Rows.{first_refused}
 use Rattle.rowplan.specs.Outputs.{InOrder, Output, output_type, stated_type}
 use Rattle.rowplan.specs.declared.batch_plan.RowPolicy.{RowPolicy}

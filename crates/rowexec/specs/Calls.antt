@@ -1,4 +1,4 @@
--- How often an engine was called.
+-- How often an engine was called, so that a clause of a program can say that its result was executed.
 use Rattle.std.specs.Prelude.{◌≡◌, ℕ, ◌+◌, ◌-◌, ◌^◌, min}
 
 -- one call more, up to the last value

@@ -1,14 +1,15 @@
--- How many rows a batch runs.
+-- How many rows a batch runs, by its layouts and its policy. No contract can count the calls of a callback; these are the counts that
+-- the loops tell.
 use Rattle.std.specs.Prelude.{ℕ, ◌+◌, Option, Bool, ◌&&◌, ◌||◌, ◌==◌, true, false, List, [], ◌∷◌, nat_lt, is_some, if◌then◌else◌}
 use Rattle.bitlane.specs.Bits.{tabulate}
 use Rattle.colbase.specs.Arrays.{Array}
-use Rattle.colbase.specs.Cell.{Cell}
-use Rattle.colbase.specs.Keep.{trues}
+use Rattle.coltypes.specs.Cell.{Cell}
+use Rattle.coltypes.specs.Keep.{trues}
 use Rattle.colbase.specs.Parts.{own_validity}
-use Rattle.colbase.specs.Valid.{validity_kind}
-use Rattle.colbase.specs.declared.validity.ValidityKind.{ValidityKind}
-use Rattle.colbase.specs.declared.validity.ValidityKind.TheVariants.{AllNull, NoNulls, MayHoldNulls}
-use Rattle.rowtypes.specs.Shown.{batch_value}
+use Rattle.coltypes.specs.Valid.{validity_kind}
+use Rattle.coltypes.specs.declared.validity.ValidityKind.{ValidityKind}
+use Rattle.coltypes.specs.declared.validity.ValidityKind.TheVariants.{AllNull, NoNulls, MayHoldNulls}
+use Rattle.rowelems.specs.Shown.{batch_value}
 use Rattle.rowplan.specs.declared.batch_plan.RowPolicy.{RowPolicy}
 use Rattle.rowplan.specs.declared.batch_plan.RowPolicy.TheVariants.{Dense, DenseWithRetry, ValidOnly}
 use Rattle.rowplan.specs.Outcomes.{Outcome}

@@ -1,9 +1,10 @@
--- Evidence that is joined over the rows of a batch.
+-- Evidence that is joined over the rows of a batch, and what is told where it isn't accepted: which rows are joined decides which
+-- failures a caller sees.
 use Rattle.std.specs.Prelude.{◌≡◌, ℕ, zero, suc, Bool, true, false, List, Option, None, Some}
 use Rattle.colbase.specs.Arrays.{Array}
-use Rattle.colbase.specs.Cell.{Cell}
-use Rattle.colbase.specs.declared.fault.Fault.{Fault}
-use Rattle.colbase.specs.declared.fault.Fault.TheVariants.{Row}
+use Rattle.coltypes.specs.Cell.{Cell}
+use Rattle.coltypes.specs.declared.fault.Fault.{Fault}
+use Rattle.coltypes.specs.declared.fault.Fault.TheVariants.{Row}
 use Rattle.rowtypes.specs.Rows.{shown_from}
 use Rattle.rowplan.specs.Outcomes.{Outcome, done, failed}
 

@@ -1,4 +1,3 @@
-pub mod Answers
 pub mod Batch
 pub mod Calls
 pub mod Counts
@@ -6,6 +5,5 @@ pub mod Evidence
 pub mod Masks
 pub mod Reads
 pub mod Rows
-pub mod Samples
 pub mod Selections
 pub mod Visits

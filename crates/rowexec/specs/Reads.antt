@@ -1,10 +1,10 @@
--- Why the arguments of a batch are not read.
+-- Why the arguments of a batch are not read. Which of several arguments is named depends on the rows that run.
 use Rattle.std.specs.Prelude.{◌≡◌, ◌⊎◌, ℕ, suc, List, [], ◌∷◌}
 use Rattle.colbase.specs.Arrays.{Array}
-use Rattle.colbase.specs.Cell.{Cell}
-use Rattle.colbase.specs.declared.fault.Fault.{Fault}
-use Rattle.colbase.specs.declared.fault.Fault.TheVariants.{Decode, Memory}
-use Rattle.rowtypes.specs.Reading.{Unread}
+use Rattle.coltypes.specs.Cell.{Cell}
+use Rattle.coltypes.specs.declared.fault.Fault.{Fault}
+use Rattle.coltypes.specs.declared.fault.Fault.TheVariants.{Decode, Memory}
+use Rattle.rowelems.specs.Reading.{Unread}
 
 -- the array at place j holds a cell that is not read; the places are counted from k on
 abbrev pub UnreadAt : (ℕ → Cell → Type 0) → ℕ → List Array → ℕ → Type 0

@@ -1,14 +1,14 @@
--- What a batch call means, row by row.
+-- What a batch call means, row by row: the strict lifting of the meaning of a row. Whatever is stored under a null has no part in it.
 use Rattle.std.specs.Prelude.{◌≡◌, ℕ, suc, ◌==◌, Bool, ◌||◌, true, false, List, [], ◌∷◌, Option, None, Some, ⊤, if◌then◌else◌}
 use Rattle.colbase.specs.Arrays.{Array, dtype, len, row}
-use Rattle.colbase.specs.Cell.{Cell}
-use Rattle.colbase.specs.LogicalType.{LogicalType}
+use Rattle.coltypes.specs.Cell.{Cell}
+use Rattle.coltypes.specs.LogicalType.{LogicalType}
 use Rattle.colbase.specs.Parts.{own_validity}
-use Rattle.colbase.specs.Valid.{validity_kind}
-use Rattle.colbase.specs.declared.fault.Fault.{Fault}
-use Rattle.colbase.specs.declared.fault.Fault.TheVariants.{InputLength}
-use Rattle.colbase.specs.declared.validity.ValidityKind.{ValidityKind}
-use Rattle.colbase.specs.declared.validity.ValidityKind.TheVariants.{AllNull, NoNulls, MayHoldNulls}
+use Rattle.coltypes.specs.Valid.{validity_kind}
+use Rattle.coltypes.specs.declared.fault.Fault.{Fault}
+use Rattle.coltypes.specs.declared.fault.Fault.TheVariants.{InputLength}
+use Rattle.coltypes.specs.declared.validity.ValidityKind.{ValidityKind}
+use Rattle.coltypes.specs.declared.validity.ValidityKind.TheVariants.{AllNull, NoNulls, MayHoldNulls}
 use Rattle.rowplan.specs.Outcomes.{Outcome, done}
 
 abbrev pub types_of : List Array → List LogicalType

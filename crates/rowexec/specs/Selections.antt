@@ -1,10 +1,11 @@
--- Which rows of a batch run.
+-- Which rows of a batch run. Each choice says what its run may rest on.
 use Rattle.std.specs.Prelude.{◌≡◌, ℕ, ◌<◌, Bool, true, false, List, [], ◌∷◌, ⊤, length, is_some}
 use Rattle.bitlane.specs.Bits.{bit}
 use Rattle.colbase.specs.Arrays.{Array}
-use Rattle.colbase.specs.Keep.{Filters, trues}
-use Rattle.colbase.specs.Valid.{valid_at}
-use Rattle.colbase.specs.declared.validity.Validity.{Validity}
+use Rattle.colbase.specs.Selects.{Filters}
+use Rattle.coltypes.specs.Keep.{trues}
+use Rattle.coltypes.specs.Valid.{valid_at}
+use Rattle.coltypes.specs.declared.validity.Validity.{Validity}
 use Rattle.rowplan.specs.declared.batch_plan.RowPolicy.{RowPolicy}
 use Rattle.rowplan.specs.declared.batch_plan.RowPolicy.TheVariants.{DenseWithRetry}
 use Rattle.rowexec.specs.Counts.{one_row, runs_valid_only}

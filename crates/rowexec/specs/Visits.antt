@@ -1,11 +1,12 @@
--- What an executing visitor is made with, and what it answers.
+-- What an executing visitor is made with, and what it answers: one record for each of the four visitors on either side, in words of
+-- plain data, so that the lemmas about batches name no program type.
 use Rattle.std.specs.Prelude.{◌≡◌, ◌⊎◌, ⊤, ℕ, ◌<◌, ◌≤◌, Bool, true, false, List, [], ◌∷◌, length, Option, None, Some, IsSome, is_some, IfSome, MatchOption, Result, MatchResult, IfOk}
 use Rattle.bitlane.specs.Bits.{bit}
 use Rattle.colbase.specs.Arrays.{Array, dtype, len, row}
-use Rattle.colbase.specs.Cell.{Cell}
-use Rattle.colbase.specs.Keep.{place, trues}
-use Rattle.colbase.specs.LogicalType.{LogicalType}
-use Rattle.colbase.specs.declared.fault.Fault.{Fault}
+use Rattle.coltypes.specs.Cell.{Cell}
+use Rattle.coltypes.specs.Keep.{place, trues}
+use Rattle.coltypes.specs.LogicalType.{LogicalType}
+use Rattle.coltypes.specs.declared.fault.Fault.{Fault}
 use Rattle.rowtypes.specs.Rows.{AcceptsFrom, decoded_lengths, each_length, shown_from}
 use Rattle.rowplan.specs.Outcomes.{Outcome}
 use Rattle.rowplan.specs.declared.batch_plan.RowPolicy.{RowPolicy}
@@ -13,8 +14,8 @@ use Rattle.rowplan.specs.declared.batch_plan.RowPolicy.TheVariants.{Dense}
 use Rattle.rowexec.specs.Counts.{runs_valid_only}
 use Rattle.rowexec.specs.Evidence.{joined, shown_cells}
 use Rattle.rowexec.specs.Rows.{Accepted, EachHasRows, full_cells, types_of}
-use Rattle.rowexec.specs.declared.execute.retry.DenseAttempt.{DenseAttempt}
-use Rattle.rowexec.specs.declared.execute.retry.DenseAttempt.TheVariants.{DeferredError, Values}
+use Rattle.rowloops.specs.declared.retry.DenseAttempt.{DenseAttempt}
+use Rattle.rowloops.specs.declared.retry.DenseAttempt.TheVariants.{DeferredError, Values}
 
 -- each argument has row i, and none is null there
 abbrev pub FullAt : ℕ → List Array → Type 0

@@ -1,4 +1,5 @@
-//! A row function over whole columns.
+//! A row function over whole columns: checks, plan, the choice of the rows that run, the runs, and the column that is answered. Each
+//! stage has a file, whose contract is that stage's part of the clauses of `execute_rows`.
 mod answer;
 mod arguments;
 mod call;

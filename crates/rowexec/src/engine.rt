@@ -1,3 +1,4 @@
+// The execution that a program is given: a trait whose count of calls lets a contract say that the engine was called.
 ghost use Rattle.std.specs.Prelude.{◌≡◌, ℕ};
 
 use crate::batch::execute_rows;
@@ -8,7 +9,7 @@ use rowplan::RowFn;
 pub trait RowEngine {
     ghost use Rattle.std.specs.Prelude.{◌≢◌, ◌<◌, length, Err, IfOk, IfErr};
     ghost use Rattle.colbase.specs.Arrays.{dtype, len, row};
-    ghost use Rattle.colbase.specs.declared.fault.Fault.TheVariants.{Arity};
+    ghost use Rattle.coltypes.specs.declared.fault.Fault.TheVariants.{Arity};
     ghost use Rattle.rowexec.specs.Batch.{Cause, Fits, Planned, StatedAs};
     ghost use Rattle.rowexec.specs.Calls.{Raised};
     ghost use Rattle.rowexec.specs.Evidence.{EvidenceFails, joined};

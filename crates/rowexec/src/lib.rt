@@ -1,15 +1,12 @@
-//! Execution of row functions over whole columns.
+//! Execution of row functions over whole columns: the visitors that run one, the batch call around them, and the two forms in which
+//! programs take it, as a scalar function of an engine and as an engine.
 #![tactic(auto)]
 
 mod batch;
 mod engine;
-mod execute;
 mod visitor;
 mod vtable;
 
 pub use batch::{Counted, execute_rows, execute_rows_counted, row_fn_return_dtype};
 pub use engine::{CallEngine, RowEngine};
 pub use vtable::RowFnVTable;
-
-#[cfg(test)]
-mod tests;

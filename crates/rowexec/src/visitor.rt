@@ -1,4 +1,5 @@
-//! The visitors that run a row function.
+//! The visitors that run a row function: one for each choice of rows, over the loops of `rowloops`. What one needs of the columns is
+//! its `ready`, and what it leaves its `gives`, so that `batch` knows no type of an element.
 mod dense_with_retry;
 mod execute;
 mod filtered_rows;

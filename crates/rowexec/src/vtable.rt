@@ -1,9 +1,10 @@
+// A row function with the calls that an engine of scalar functions makes, each by one call of `batch`.
 ghost use Rattle.std.specs.Prelude.{◌≡◌, ◌≢◌, ◌<◌, ◌⊎◌, ℕ, length, true, is_some, Err, IfOk, IfErr};
 ghost use Rattle.bitlane.specs.Bits.{bit};
 ghost use Rattle.colbase.specs.Arrays.{dtype, len, row};
-ghost use Rattle.colbase.specs.LogicalTypeOf.{logical_type};
-ghost use Rattle.colbase.specs.Masks.{mask_bits};
-ghost use Rattle.colbase.specs.declared.fault.Fault.TheVariants.{Arity, Memory};
+ghost use Rattle.coltypes.specs.LogicalTypeOf.{logical_type};
+ghost use Rattle.coltypes.specs.Masks.{mask_bits};
+ghost use Rattle.coltypes.specs.declared.fault.Fault.TheVariants.{Arity, Memory};
 ghost use Rattle.rowtypes.specs.Rows.{logical_types};
 ghost use Rattle.rowexec.specs.Batch.{Cause, Fits, Misfits, Planned, StatedAs, Unplanned};
 ghost use Rattle.rowexec.specs.Evidence.{EvidenceFails, joined};

@@ -2,14 +2,14 @@
 use Rattle.std.proofs.Common.{◌≡◌, ◌∙◌, Result, Ok, Err, inl, inr, refl, ap}
 use Rattle.std.specs.Prelude.{IfOk, IfErr}
 use Rattle.bitlane.proofs.Tables.{tabulate-same}
-use Rattle.colbase.specs.declared.dtype.ExtDType.{ExtDType}
-use Rattle.colbase.specs.declared.dtype.Nullability.{Nullability}
-use Rattle.colbase.specs.declared.fault.Fault.{Fault}
-use Rattle.colbase.specs.declared.fault.Fault.TheVariants.{Memory}
+use Rattle.coltypes.specs.declared.dtype.ExtDType.{ExtDType}
+use Rattle.coltypes.specs.declared.dtype.Nullability.{Nullability}
+use Rattle.coltypes.specs.declared.fault.Fault.{Fault}
+use Rattle.coltypes.specs.declared.fault.Fault.TheVariants.{Memory}
 use Rattle.colbase.specs.Arrays.{Array, dtype, extension, len, payload, row, rows, stored}
 use Rattle.colbase.specs.Faults.{BuildsExtension}
-use Rattle.colbase.specs.LogicalType.{with_nullability}
-use Rattle.colbase.specs.LogicalTypeOf.{extension_type, logical_type}
+use Rattle.coltypes.specs.LogicalType.{with_nullability}
+use Rattle.coltypes.specs.LogicalTypeOf.{extension_type, logical_type}
 
 pub rows_labelled : (r : Result Array Fault) (e : ExtDType) (c : Array) → BuildsExtension r e c → IfOk r (λ a. rows a ≡ rows c)
 rows_labelled (Ok a) e c h = ap rows h.1 ∙ tabulate-same (row (extension e c)) (row c) (len c) (λ i k. refl)

@@ -1,9 +1,9 @@
 -- Types that are one, and types of one list.
 use Rattle.std.proofs.Common.{◌≡◌, ℕ, suc, Bool, true, List, [], ◌∷◌, length, refl, ap}
-use Rattle.colbase.specs.declared.dtype.DType.{DType}
-use Rattle.colbase.specs.Equal.{same_type}
-use Rattle.colbase.specs.EqualLaws.{type_decides}
-use Rattle.colbase.specs.LogicalType.{LogicalType}
+use Rattle.coltypes.specs.declared.dtype.DType.{DType}
+use Rattle.coltypes.specs.Equal.{same_type}
+use Rattle.coltypes.specs.EqualLaws.{type_decides}
+use Rattle.coltypes.specs.LogicalType.{LogicalType}
 use Rattle.rowtypes.specs.Rows.{first_refused, logical_types}
 
 pub same_is_true : (t u : LogicalType) → t ≡ u → same_type t u ≡ true

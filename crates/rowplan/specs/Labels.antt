@@ -1,8 +1,8 @@
--- The type under which an output is shown.
+-- The type under which an output is shown, by the label that a plan holds.
 use Rattle.std.specs.Prelude.{Option, None, Some}
-use Rattle.colbase.specs.declared.dtype.ExtDType.{ExtDType}
-use Rattle.colbase.specs.LogicalType.{LogicalType}
-use Rattle.colbase.specs.LogicalTypeOf.{logical_type, extension_type}
+use Rattle.coltypes.specs.declared.dtype.ExtDType.{ExtDType}
+use Rattle.coltypes.specs.LogicalType.{LogicalType}
+use Rattle.coltypes.specs.LogicalTypeOf.{logical_type, extension_type}
 
 -- the type under which values of this type are shown
 abbrev pub shown_as : Option ExtDType → LogicalType → LogicalType

@@ -3,5 +3,4 @@ pub mod Outcomes
 pub mod Outputs
 pub mod Plans
 pub mod Policies
-pub mod Samples
 pub mod Visits

@@ -1,7 +1,7 @@
--- What a row of a row function comes to.
+-- What a row of a row function comes to, and the laws that let evidence of many rows be judged once.
 use Rattle.std.specs.Prelude.{◌≡◌, ℕ, Option, None, Some, Result, Ok, Err, ⊤}
-use Rattle.colbase.specs.Cell.{Cell}
-use Rattle.colbase.specs.declared.fault.RowError.{RowError}
+use Rattle.coltypes.specs.Cell.{Cell}
+use Rattle.coltypes.specs.declared.fault.RowError.{RowError}
 
 -- a cell with evidence, or the code of an error
 pub data Outcome (E : Type 0) : Type 0 where

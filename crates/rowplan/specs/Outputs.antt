@@ -1,8 +1,8 @@
--- The type of a row function's output.
+-- The type of a row function's output, and when a declared type fits what is stored.
 use Rattle.std.specs.Prelude.{◌≡◌, Bool, ◌||◌, false, List, [], ◌∷◌, Option, None, Some, ⊤, ◌⊎◌}
-use Rattle.colbase.specs.declared.dtype.Nullability.TheVariants.{Nullable, NonNullable}
-use Rattle.colbase.specs.Fits.{is_nullable}
-use Rattle.colbase.specs.LogicalType.{LogicalType, extension, nullability_of, with_nullability}
+use Rattle.coltypes.specs.declared.dtype.Nullability.TheVariants.{Nullable, NonNullable}
+use Rattle.coltypes.specs.Fits.{is_nullable}
+use Rattle.coltypes.specs.LogicalType.{LogicalType, extension, nullability_of, with_nullability}
 
 -- the type of what is stored, where there is one, and the type under which it is shown, where one is declared
 pub record Output : Type 0 where

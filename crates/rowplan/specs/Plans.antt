@@ -1,12 +1,12 @@
--- The plan of a batch.
+-- The plan of a batch as plain data, when there is one, and in which part two differ.
 use Rattle.std.specs.Prelude.{◌≡◌, ◌≢◌, ⊤, ℕ, Option, None, Some, Result, MatchResult, ◌⊎◌}
-use Rattle.colbase.specs.declared.fault.Fault.{Fault}
-use Rattle.colbase.specs.declared.fault.Fault.TheVariants.{Dtype, OutputType, Memory}
-use Rattle.colbase.specs.declared.fault.Fault.TheVariants as fault
-use Rattle.colbase.specs.declared.fault.PlanDifference.{PlanDifference}
-use Rattle.colbase.specs.declared.fault.PlanDifference.TheVariants as differs
-use Rattle.colbase.specs.LogicalType.{LogicalType}
-use Rattle.colbase.specs.LogicalTypeOf.{logical_type}
+use Rattle.coltypes.specs.declared.fault.Fault.{Fault}
+use Rattle.coltypes.specs.declared.fault.Fault.TheVariants.{Dtype, OutputType, Memory}
+use Rattle.coltypes.specs.declared.fault.Fault.TheVariants as fault
+use Rattle.coltypes.specs.declared.fault.PlanDifference.{PlanDifference}
+use Rattle.coltypes.specs.declared.fault.PlanDifference.TheVariants as differs
+use Rattle.coltypes.specs.LogicalType.{LogicalType}
+use Rattle.coltypes.specs.LogicalTypeOf.{logical_type}
 use Rattle.rowplan.specs.declared.batch_plan.BatchPlan.{BatchPlan}
 use Rattle.rowplan.specs.declared.batch_plan.RowPolicy.{RowPolicy}
 use Rattle.rowplan.specs.Labels.{shown_as}
@@ -39,8 +39,8 @@ abbrev pub NoPlan : Option ℕ → Option LogicalType → Option LogicalType →
 NoPlan refused storage label e = (e ≡ Memory) ⊎ (((k : ℕ) × (refused ≡ Some k) × (e ≡ Dtype k)) ⊎ ((refused ≡ None) × (e ≡ OutputType) × (InOrder storage label → ⊥)))
 
 -- the answer of a planner
-abbrev pub Planned : Result BatchPlan Fault → Option ℕ → Option LogicalType → Option LogicalType → RowPolicy → Type 0
-Planned r refused storage label policy = MatchResult r (λ p. (refused ≡ None) × PlanOf storage label policy p) (NoPlan refused storage label)
+abbrev pub PlanAnswer : Result BatchPlan Fault → Option ℕ → Option LogicalType → Option LogicalType → RowPolicy → Type 0
+PlanAnswer r refused storage label policy = MatchResult r (λ p. (refused ≡ None) × PlanOf storage label policy p) (NoPlan refused storage label)
 
 -- the plans agree in the parts before this one, and differ in it
 abbrev pub DifferFirstIn : PlanDifference → Plan → Plan → Type 0

@@ -1,4 +1,5 @@
--- Over which rows a visit may run.
+-- Over which rows a visit may run: rows with nulls only where what is stored under a null may be read and any failure there is told
+-- apart.
 use Rattle.std.specs.Prelude.{Bool, true}
 use Rattle.rowplan.specs.declared.batch_plan.RowPolicy.{RowPolicy}
 use Rattle.rowplan.specs.declared.batch_plan.RowPolicy.TheVariants.{Dense, DenseWithRetry, ValidOnly}

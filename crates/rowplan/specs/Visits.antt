@@ -1,8 +1,8 @@
 -- What each visit asks: the elements and the output that it is made with are those of the function's meanings.
 use Rattle.std.specs.Prelude.{◌≡◌, ◌↔◌, ℕ, Bool, List, length, Option, Some, true}
-use Rattle.colbase.specs.Cell.{Cell}
+use Rattle.coltypes.specs.Cell.{Cell}
 use Rattle.colbase.specs.Arrays.{Array}
-use Rattle.colbase.specs.LogicalType.{LogicalType}
+use Rattle.coltypes.specs.LogicalType.{LogicalType}
 use Rattle.rowplan.specs.Outputs.{Output}
 
 -- the arguments' elements are those of the function

@@ -1,8 +1,9 @@
+//! The plan of a batch: what is settled of it from the argument types alone, before a column is looked at.
 ghost use Rattle.std.specs.Prelude.{◌≡◌, true};
-ghost use Rattle.colbase.specs.Equal.{same_type};
-ghost use Rattle.colbase.specs.LogicalType.{nullability_of};
-ghost use Rattle.colbase.specs.LogicalTypeOf.{logical_type};
-ghost use Rattle.colbase.specs.declared.dtype.Nullability.TheVariants.{NonNullable};
+ghost use Rattle.coltypes.specs.Equal.{same_type};
+ghost use Rattle.coltypes.specs.LogicalType.{nullability_of};
+ghost use Rattle.coltypes.specs.LogicalTypeOf.{logical_type};
+ghost use Rattle.coltypes.specs.declared.dtype.Nullability.TheVariants.{NonNullable};
 ghost use Rattle.rowplan.specs.Labels.{label_storage};
 
 use colbase::{DType, ExtDType};

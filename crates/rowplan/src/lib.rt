@@ -1,11 +1,10 @@
-//! Row functions: what one means, how it chooses its visit, and the plan of a batch.
+//! Row functions: what one means, how it chooses its visit, and the plan of a batch. Nothing here reads a column, so that functions
+//! are defined and proved beside the loops and the execution.
 #![tactic(auto)]
 
 mod batch_plan;
 mod row_fn;
 mod row_spec;
-#[cfg(test)]
-mod tests;
 mod visitor;
 
 pub use batch_plan::{BatchPlan, RowPolicy, is_any_nullable};

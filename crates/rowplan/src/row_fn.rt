@@ -1,3 +1,4 @@
+// The calls of a row function, whose contracts tie it to its meanings in `RowSpec`.
 ghost use Rattle.std.specs.Prelude.{◌≡◌, ◌⊎◌, true, false, length, Option, None, IfOk, IfErr, IfSome, Err, is_some};
 
 use crate::row_spec::RowSpec;
@@ -6,7 +7,7 @@ use colbase::{DType, ExecutionCtx, Fault, Res};
 
 /// A row function: its name, its options as bytes, and the visit that it selects.
 pub trait RowFn: RowSpec + Sized {
-    ghost use Rattle.colbase.specs.declared.fault.Fault.TheVariants.{Memory, Metadata, NotSerializable, Refused};
+    ghost use Rattle.coltypes.specs.declared.fault.Fault.TheVariants.{Memory, Metadata, NotSerializable, Refused};
     ghost use Rattle.rowtypes.specs.Rows.{logical_types};
 
     fn id(&self) -> &'static str;

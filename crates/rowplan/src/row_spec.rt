@@ -1,3 +1,5 @@
+// The meanings of a row function, as ghost members that contracts of whole batches name, with the laws that these rest on. They
+// stand apart from `RowFn`, since a visitor is a visitor of meanings.
 ghost use Rattle.std.specs.Prelude.{◌≡◌, ◌≤◌, ℕ, Bool, true, false, List, length, Option, None};
 
 use bitlane::FailureEvidence;
@@ -11,8 +13,8 @@ use std::hash::Hash;
 /// callbacks that agree with them.
 pub trait RowSpec {
     ghost use Rattle.colbase.specs.Arrays.{Array};
-    ghost use Rattle.colbase.specs.Cell.{Cell};
-    ghost use Rattle.colbase.specs.LogicalType.{LogicalType};
+    ghost use Rattle.coltypes.specs.Cell.{Cell};
+    ghost use Rattle.coltypes.specs.LogicalType.{LogicalType};
     ghost use Rattle.rowplan.specs.Outcomes.{EvidenceIs, FinishLaws, IsDone, NeverFails, Outcome};
     ghost use Rattle.rowplan.specs.Outputs.{Output};
     ghost use Rattle.rowplan.specs.declared.batch_plan.RowPolicy.{RowPolicy};

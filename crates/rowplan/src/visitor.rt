@@ -1,4 +1,5 @@
-//! Visits of row functions, and the visitor that plans a batch.
+//! Visits of row functions, and the visitor that plans a batch. A function hands its typed callbacks to whichever visitor it is
+//! given, so that planning and each way to run are one dispatch.
 mod plan;
 mod row_visitor;
 

@@ -2,23 +2,23 @@
 use Rattle.std.proofs.Common.{◌≡◌, ◌∙◌, ℕ, List, Option, Some, true, ◌⊎◌, inl, inr, refl, ap, sym, subst, arith}
 use Rattle.std.specs.Prelude.{unwrap_or}
 use Rattle.colbase.specs.Column.{Column}
-use Rattle.colbase.specs.declared.fault.Fault as f
+use Rattle.coltypes.specs.declared.fault.Fault as f
 use Rattle.rowtext.specs.declared.command.Command.TheVariants.{Unknown, WithInput, WithoutInput}
-use Rattle.rowtext.specs.declared.plan.Answer.{Answer}
-use Rattle.rowtext.specs.declared.plan.Answer.TheVariants.{Fault, Form, Printed, Unbuilt}
-use Rattle.rowtext.specs.declared.plan.Plan.{Plan}
-use Rattle.rowtext.specs.declared.plan.Plan.TheVariants.{Usage, Unread, Long, Answered}
+use Rattle.rowtext.specs.declared.reply.Answer.{Answer}
+use Rattle.rowtext.specs.declared.reply.Answer.TheVariants.{Fault, Form, Printed, Unbuilt}
+use Rattle.rowtext.specs.declared.reply.Reply.{Reply}
+use Rattle.rowtext.specs.declared.reply.Reply.TheVariants.{Usage, Unread, Long, Answered}
 use Rattle.rowtext.specs.Bytes.{IsProperPrefix}
 use Rattle.rowtext.specs.Changes.{Change, IsSteady, IsUntouched, TookAll, Gained}
 use Rattle.rowtext.specs.Causes.{HasCause, usage, unread, long, of_input, of_words}
 use Rattle.rowtext.specs.Outcomes.{Ends, Wrote, wrote, memory as no_memory, whole, cut as cut_short}
-use Rattle.rowtext.specs.Plans.{plan_status, plan_text}
+use Rattle.rowtext.specs.Replies.{reply_status, reply_text}
 use Rattle.rowtext.proofs.Statuses.{of_three, of_zero}
 use Rattle.rowrun.specs.Batch.{Batch, batch_of}
 use Rattle.rowrun.specs.Faults.{fault_text}
 use Rattle.rowrun.specs.Generator.{summary}
 use Rattle.rowrun.specs.Results.{IsResult, HasFault}
-use Rattle.rowrun.specs.Text.{text}
+use Rattle.rowjson.specs.Text.{text}
 use Rattle.rowrun.specs.Words.{Generates, IsGen, Leads, WordsLead, command_of, cut, is_run, memory, printed, rows_asked}
 use Rattle.rowrun.proofs.Asked.{asked, asks, of_gen, run_of}
 
@@ -107,12 +107,12 @@ was_called {called = called} words {source = source} {sink = sink} ends (inr thr
 same_number : (words : List (List ℕ)) (n m : ℕ) → rows_asked words ≡ Some n → rows_asked words ≡ Some m → m ≡ n
 same_number words n m one other = ap (λ (o : Option ℕ). unwrap_or o 0) (sym other ∙ one)
 
--- a plan of these words is the summary, nothing was read, and the engine was called
-pub record IsSummary (called : Type 0) (n : ℕ) (source : Change) (plan : Plan) : Type 0 where
+-- a reply of these words is the summary, nothing was read, and the engine was called
+pub record IsSummary (called : Type 0) (n : ℕ) (source : Change) (reply : Reply) : Type 0 where
   pub rose : called
   pub kept : IsUntouched source
-  pub status_is : plan_status plan ≡ 0
-  pub text_is : plan_text plan ≡ summary n
+  pub status_is : reply_status reply ≡ 0
+  pub text_is : reply_text reply ≡ summary n
 
 summarised_answer : (called : Type 0) (words : List (List ℕ)) (source : Change) (n : ℕ) (answer : Answer) → rows_asked words ≡ Some n → command_of words ≡ WithoutInput → FromEither called words source answer → IsSummary called n source (Answered answer)
 summarised_answer called words source n answer told is (inl (with, all)) = let impossible : WithInput ≡ WithoutInput = sym with ∙ is in absurd (cc)
@@ -122,23 +122,23 @@ summarised_answer called words source n (Fault t) told is (inr (without, kept, l
 summarised_answer called words source n (Printed t) told is (inr (without, kept, (rose, m, so, is_text))) =
     record { rose = rose; kept = kept; status_is = refl; text_is = is_text ∙ ap summary (same_number words n m told so) }
 
-summarised : (called : Type 0) (words : List (List ℕ)) (source : Change) (n : ℕ) (plan : Plan) → rows_asked words ≡ Some n → command_of words ≡ WithoutInput → HasCause (command_of words) (WordsLead called words) (Leads called) source plan → IsSummary called n source plan
+summarised : (called : Type 0) (words : List (List ℕ)) (source : Change) (n : ℕ) (reply : Reply) → rows_asked words ≡ Some n → command_of words ≡ WithoutInput → HasCause (command_of words) (WordsLead called words) (Leads called) source reply → IsSummary called n source reply
 summarised called words source n Usage told is (usage unknown kept) = let impossible : Unknown ≡ WithoutInput = sym unknown ∙ is in absurd (cc)
 summarised called words source n Unread told is (unread with failed few) = let impossible : WithInput ≡ WithoutInput = sym with ∙ is in absurd (cc)
 summarised called words source n Long told is (long with many) = let impossible : WithInput ≡ WithoutInput = sym with ∙ is in absurd (cc)
 summarised called words source n (Answered answer) told is cause =
     summarised_answer called words source n answer told is (by_cause called words source answer cause)
 
-generates_by : {called : Type 0} {source : Change} {status : ℕ} {sink : Change} (n : ℕ) (plan : Plan) → IsSummary called n source plan → Wrote plan status sink → Generates called n status source sink
-generates_by {sink = sink} n plan is (whole so gained) =
+generates_by : {called : Type 0} {source : Change} {status : ℕ} {sink : Change} (n : ℕ) (reply : Reply) → IsSummary called n source reply → Wrote reply status sink → Generates called n status source sink
+generates_by {sink = sink} n reply is (whole so gained) =
     printed (so ∙ is.status_is) is.rose is.kept (subst (Gained sink) is.text_is gained)
-generates_by {sink = sink} n plan is (cut_short six failed prefix proper gained) =
+generates_by {sink = sink} n reply is (cut_short six failed prefix proper gained) =
     cut six is.rose is.kept failed prefix (subst (IsProperPrefix prefix) is.text_is proper) gained
 
 pub generates : {called : Type 0} (words : List (List ℕ)) {source : Change} {status : ℕ} {sink : Change} → Ends (HasCause (command_of words) (WordsLead called words) (Leads called) source) status sink → (n : ℕ) → IsGen words n → Generates called n status source sink
-generates {called = called} words {source = source} (wrote plan cause written) n gen =
+generates {called = called} words {source = source} (wrote reply cause written) n gen =
     let so = asked words n gen in
-    generates_by n plan (summarised called words source n plan so (of_gen words n so) cause) written
+    generates_by n reply (summarised called words source n reply so (of_gen words n so) cause) written
 generates words (no_memory four kept) n gen = memory four kept
 
 pub steady_generates : {called : Type 0} {source : Change} {status : ℕ} {sink : Change} (n : ℕ) → Generates called n status source sink → IsSteady sink → (status ≡ 0) ⊎ (status ≡ 4)

@@ -5,21 +5,22 @@ use Rattle.std.proofs.Math.Nat.{mod-lt}
 use Rattle.bitlane.specs.Bits.{tabulate}
 use Rattle.bitlane.proofs.Tables.{length-tabulate, get_or-tabulate}
 use Rattle.colbase.specs.Arrays.{Array, MustRead, len, row}
-use Rattle.colbase.specs.Cell.{Cell, number}
-use Rattle.colbase.specs.LogicalType.{primitive}
-use Rattle.colbase.specs.declared.dtype.PType.TheVariants as ptype
-use Rattle.colbase.specs.declared.dtype.Nullability.TheVariants.{Nullable}
-use Rattle.colbase.specs.declared.fault.Fault.{Fault}
-use Rattle.colbase.specs.declared.fault.Fault.TheVariants.{InputLength, Layout, Memory}
-use Rattle.colbase.specs.declared.fault.LayoutFault.TheVariants as layout
-use Rattle.colbase.specs.declared.validity.Validity.TheVariants as validity
-use Rattle.colbase.specs.Faults.{Builds, length_check}
-use Rattle.rowtypes.specs.Reading.{IsNumberOf}
+use Rattle.coltypes.specs.Cell.{Cell, number}
+use Rattle.coltypes.specs.LogicalType.{primitive}
+use Rattle.coltypes.specs.declared.dtype.PType.TheVariants as ptype
+use Rattle.coltypes.specs.declared.dtype.Nullability.TheVariants.{Nullable}
+use Rattle.coltypes.specs.declared.fault.Fault.{Fault}
+use Rattle.coltypes.specs.declared.fault.Fault.TheVariants.{InputLength, Layout, Memory}
+use Rattle.coltypes.specs.declared.fault.LayoutFault.TheVariants as layout
+use Rattle.coltypes.specs.declared.validity.Validity.TheVariants as validity
+use Rattle.colbase.specs.Faults.{Builds}
+use Rattle.coltypes.specs.Checks.{length_check}
+use Rattle.rowelems.specs.Reading.{IsNumberOf}
 use Rattle.rowtypes.specs.Rows.{first_refused}
 use Rattle.rowexec.specs.Evidence.{EvidenceFails, joined, joined_with}
 use Rattle.rowexec.specs.Reads.{UnreadAt}
 use Rattle.rowexec.specs.Rows.{full_cells, types_of, with_cell, wrong_length}
-use Rattle.rowrun.specs.Functions.{accepts_i64, checked_sums, exact_sum, is_outside, reads_i64, refused_where, true_is_false}
+use Rattle.rowsample.specs.Functions.{accepts_i64, checked_sums, exact_sum, is_outside, reads_i64, refused_where, true_is_false}
 use Rattle.rowrun.specs.Generator.{IsSmall, generated, generated_column, is_null_in, is_valid_in, left, right, stored_in, sum_at}
 use Rattle.rowrun.specs.Results.{CauseOf}
 use Rattle.rowrun.specs.declared.batch.Call.TheVariants.{CheckedAdd}

@@ -6,24 +6,24 @@ use Rattle.std.proofs.lemmas.Int.{int_wrap_fits}
 use Rattle.bitlane.specs.Bits.{bit}
 use Rattle.bitlane.proofs.Tables.{length-tabulate, get_or-tabulate}
 use Rattle.colbase.specs.Arrays.{Array, column, dtype, len, row}
-use Rattle.colbase.specs.Cell.{Cell, number}
-use Rattle.colbase.specs.Fits.{in_range}
-use Rattle.colbase.specs.LogicalType.{LogicalType, primitive, null}
-use Rattle.colbase.specs.declared.dtype.PType.TheVariants.{I64}
-use Rattle.colbase.specs.declared.dtype.Nullability.TheVariants.{NonNullable}
-use Rattle.colbase.specs.declared.fault.Fault.{Fault}
-use Rattle.colbase.specs.declared.fault.Fault.TheVariants.{Memory}
-use Rattle.rowtypes.specs.Reading.{is_integer}
+use Rattle.coltypes.specs.Cell.{Cell, number}
+use Rattle.coltypes.specs.Fits.{in_range}
+use Rattle.coltypes.specs.LogicalType.{LogicalType, primitive, null}
+use Rattle.coltypes.specs.declared.dtype.PType.TheVariants.{I64}
+use Rattle.coltypes.specs.declared.dtype.Nullability.TheVariants.{NonNullable}
+use Rattle.coltypes.specs.declared.fault.Fault.{Fault}
+use Rattle.coltypes.specs.declared.fault.Fault.TheVariants.{Memory}
+use Rattle.rowelems.specs.Reading.{is_integer}
 use Rattle.rowplan.specs.Outputs.{output_type, stated_type}
 use Rattle.rowplan.specs.Outcomes.{done}
 use Rattle.rowexec.specs.Rows.{Accepted, StrictRow, full_cells, types_of}
-use Rattle.rowrun.specs.Functions.{checked_sums, exact_sum, is_outside, refused_where, wrapped}
+use Rattle.rowsample.specs.Functions.{checked_sums, exact_sum, is_outside, refused_where, wrapped}
 use Rattle.rowrun.specs.Generator.{IsSmall, generated, marked_at, nulls_of, sum_at, summary, summary_text, total_of}
 use Rattle.rowrun.specs.Results.{CauseOf, IsResultOf}
-use Rattle.rowrun.specs.Shows.{Shows}
+use Rattle.rowjson.specs.Shows.{Shows}
 use Rattle.rowrun.specs.declared.batch.Call.TheVariants.{CheckedAdd}
 use Rattle.rowrun.proofs.GeneratedRows.{memory_alone, small_sums, types_are}
-use Rattle.rowrun.proofs.Ranges.{fits_decides}
+use Rattle.rowjson.proofs.Ranges.{fits_decides}
 use Rattle.rowrun.proofs.Tallied.{nulls_same, total_same}
 
 -- ---- strict rows

@@ -3,9 +3,9 @@ use Rattle.std.proofs.Common.{◌≡◌, ◌∙◌, ℕ, ◌<◌, Bool, List, Op
 use Rattle.std.specs.Prelude.{IfOk, Result, Ok, Err}
 use Rattle.bitlane.proofs.Tables.{length-tabulate, get_or-tabulate}
 use Rattle.colbase.specs.Arrays.{Array, column, dtype, len, row}
-use Rattle.colbase.specs.Cell.{Cell}
-use Rattle.colbase.specs.LogicalType.{LogicalType}
-use Rattle.colbase.specs.declared.fault.Fault.{Fault}
+use Rattle.coltypes.specs.Cell.{Cell}
+use Rattle.coltypes.specs.LogicalType.{LogicalType}
+use Rattle.coltypes.specs.declared.fault.Fault.{Fault}
 use Rattle.rowplan.specs.Outcomes.{Outcome}
 use Rattle.rowplan.specs.Outputs.{Output}
 use Rattle.rowexec.specs.Batch.{Fits, Planned, StatedAs}

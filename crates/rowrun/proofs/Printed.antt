@@ -1,17 +1,17 @@
 -- A truncation is of a type that is printed.
-use Rattle.std.proofs.Common.{◌≡◌, ◌∙◌, Bool, true, false, ◌||◌, ◌&&◌, List, [], ◌∷◌, Option, Some, None, refl, ap, sym}
+use Rattle.std.proofs.Common.{◌≡◌, ◌∙◌, Bool, true, false, ◌&&◌, List, [], ◌∷◌, Option, Some, None, refl, ap, sym}
 use Rattle.std.specs.Prelude.{if◌then◌else◌, unwrap_or, bytes_eq, IfOk, Result, Ok, Err}
 use Rattle.colbase.specs.Arrays.{Array, dtype}
-use Rattle.colbase.specs.declared.fault.Fault.{Fault}
-use Rattle.colbase.specs.LogicalType.{LogicalType, null, bool, primitive, utf8, binary, list, fixed_size_list, extension, with_nullability}
-use Rattle.colbase.specs.declared.dtype.Nullability.{Nullability}
-use Rattle.colbase.specs.declared.dtype.Nullability.TheVariants.{Nullable, NonNullable}
-use Rattle.colbase.specs.declared.dtype.PType.TheVariants.{I64}
-use Rattle.rowtypes.specs.Reading.{is_integer, is_time_unit, is_timestamp, timestamp_name}
+use Rattle.coltypes.specs.declared.fault.Fault.{Fault}
+use Rattle.coltypes.specs.LogicalType.{LogicalType, null, bool, primitive, utf8, binary, list, fixed_size_list, extension, with_nullability}
+use Rattle.coltypes.specs.declared.dtype.Nullability.{Nullability}
+use Rattle.coltypes.specs.declared.dtype.Nullability.TheVariants.{Nullable, NonNullable}
+use Rattle.coltypes.specs.declared.dtype.PType.TheVariants.{I8, I16, I32, I64, U8, U16, U32, U64}
+use Rattle.rowelems.specs.Reading.{is_integer, is_time_unit, is_timestamp, timestamp_name}
 use Rattle.rowplan.specs.Outputs.{any_nullable, made_nullable, output_type, stated_type}
 use Rattle.rowexec.specs.Batch.{StatedAs}
-use Rattle.rowrun.specs.Functions.{first_label, truncated_output}
-use Rattle.rowrun.specs.Shows.{is_printed}
+use Rattle.rowsample.specs.Functions.{first_label, truncated_output}
+use Rattle.rowjson.specs.Text.{is_i64, is_printed}
 
 integer_stays : (t : LogicalType) (n : Nullability) → is_integer I64 (with_nullability t n) ≡ is_integer I64 t
 integer_stays null n = refl
@@ -37,9 +37,25 @@ made_timestamp : (some : Bool) (t : LogicalType) → is_timestamp (made_nullable
 made_timestamp false t = refl
 made_timestamp true t = timestamp_stays t Nullable
 
-either_true : (a b : Bool) → b ≡ true → a || b ≡ true
-either_true true b h = refl
-either_true false b h = h
+integer_printed : (t : LogicalType) → is_integer I64 t ≡ true → is_i64 t ≡ true
+integer_printed (primitive I64 n) e = refl
+integer_printed (primitive I8 n) e = cc
+integer_printed (primitive I16 n) e = cc
+integer_printed (primitive I32 n) e = cc
+integer_printed (primitive U8 n) e = cc
+integer_printed (primitive U16 n) e = cc
+integer_printed (primitive U32 n) e = cc
+integer_printed (primitive U64 n) e = cc
+integer_printed _ e = absurd (cc)
+
+last_true : (a b c : Bool) → a && (b && c) ≡ true → c ≡ true
+last_true true true c e = e
+last_true true false c e = cc
+last_true false b c e = cc
+
+timestamp_printed : (t : LogicalType) → is_timestamp t ≡ true → is_printed t ≡ true
+timestamp_printed (extension name unit time_zone t) e = integer_printed t (last_true (bytes_eq name timestamp_name) (is_time_unit unit) (is_integer I64 t) e)
+timestamp_printed _ e = absurd (cc)
 
 -- numbers, nullable or not, and under the label of a timestamp type
 numbers_printed : (some : Bool) → is_printed (made_nullable some (primitive I64 NonNullable)) ≡ true
@@ -48,7 +64,7 @@ numbers_printed true = refl
 
 under_label : (some test : Bool) (t : LogicalType) → is_timestamp t ≡ test → is_printed (made_nullable some (output_type (primitive I64 NonNullable) (if test then Some (with_nullability t NonNullable) else None))) ≡ true
 under_label some false t is = numbers_printed some
-under_label some true t is = either_true _ _ (made_timestamp some (with_nullability t NonNullable) ∙ timestamp_stays t NonNullable ∙ is)
+under_label some true t is = timestamp_printed _ (made_timestamp some (with_nullability t NonNullable) ∙ timestamp_stays t NonNullable ∙ is)
 
 stated_printed : (types : List LogicalType) → is_printed (stated_type (output_type (primitive I64 NonNullable) (first_label types)) types) ≡ true
 stated_printed [] = refl

@@ -1,12 +1,11 @@
--- The batch that bytes state, over the JSON value that `serde_json` reads from them.
+-- The batch that bytes state, over the JSON value that `serde_json` reads from them. Exactly the known keys must be there.
 use Rattle.std.specs.Prelude.{ℕ, ℤ, ◌&&◌, nat_le, if◌then◌else◌, List, Option, Some, None, option_map, codes}
-use Rattle.std.specs.Str.{bytes_eq, is_utf8}
+use Rattle.std.specs.Str.{bytes_eq}
 use Rattle.serde_json.specs.Data.{Data}
-use Rattle.serde_json.specs.Read.{read}
 use Rattle.serde_json.specs.Find.{get}
 use Rattle.colbase.specs.Arrays.{Array}
-use Rattle.rowrun.specs.Columns.{columns_in, max_rows}
-use Rattle.rowrun.specs.Objects.{◌>>=◌, has_keys, text_in, array_in, integer_in, number_in}
+use Rattle.rowjson.specs.Columns.{columns_in, max_rows}
+use Rattle.rowjson.specs.Objects.{◌>>=◌, has_keys, json_of, text_in, array_in, integer_in, number_in}
 use Rattle.rowrun.specs.declared.batch.Call.{Call}
 use Rattle.rowrun.specs.declared.batch.Call.TheVariants.{WrappingAdd, CheckedAdd, Rescale, Truncate}
 
@@ -45,10 +44,6 @@ batch_in d = do
   if has_keys 4 d && nat_le rows max_rows then Some (record { call = call; row_count = rows; columns = columns }) else None
 
 -- ---- bytes
-
--- the JSON value of the bytes, if they are a text that is one
-unfoldable pub json_of : List ℕ → Option Data
-json_of bytes = if is_utf8 bytes then read bytes else None
 
 unfoldable pub batch_of : List ℕ → Option Batch
 batch_of bytes = json_of bytes >>= batch_in

@@ -1,4 +1,4 @@
--- What a batch of the code states.
+-- What a batch of the code states. It stands apart from the batch itself, whose file the code imports.
 use Rattle.rowrun.specs.Batch.{Batch}
 use Rattle.rowrun.specs.declared.batch.Batch as code
 

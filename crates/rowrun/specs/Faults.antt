@@ -1,9 +1,9 @@
--- The line of a fault.
+-- The line of a fault: its name and numbers, for each variant, so that the text of a fault is determined by the fault alone.
 use Rattle.std.specs.Prelude.{ℕ, List, [], ◌∷◌, ◌++◌, codes, decimal}
 use Rattle.std.specs.List.{flat_map}
-use Rattle.colbase.specs.declared.fault.Fault.{Fault}
-use Rattle.colbase.specs.declared.fault.Fault.TheVariants.{Arity, InputLength, Refused, Dtype, OutputType, Decode, Capacity, Row, Memory, Layout, Cast, NotList, NullList, NeedleType, SetLength, Metadata, DayUnits, PolicyType, UnknownZone, BadPolicy, OutOfRange, Overflow, Gap, Ambiguous, Plan, NotSerializable}
-use Rattle.rowrun.specs.Text.{line}
+use Rattle.coltypes.specs.declared.fault.Fault.{Fault}
+use Rattle.coltypes.specs.declared.fault.Fault.TheVariants.{Arity, InputLength, Refused, Dtype, OutputType, Decode, Capacity, Row, Memory, Layout, Cast, NotList, NullList, NeedleType, SetLength, Metadata, DayUnits, PolicyType, UnknownZone, BadPolicy, OutOfRange, Overflow, Gap, Ambiguous, Plan, NotSerializable}
+use Rattle.rowjson.specs.Text.{line}
 
 -- a number behind a space
 abbrev pub number_text : ℕ → List ℕ

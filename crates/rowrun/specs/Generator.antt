@@ -1,13 +1,13 @@
--- The two columns that `gen` makes, and the summary of their checked sums.
+-- The two columns that `gen` makes, and the summary of their checked sums, by the number of rows alone.
 use Rattle.std.specs.Prelude.{◌≡◌, ◌<◌, ℕ, zero, suc, ◌+◌, ◌*◌, ◌%◌, ◌==◌, not, ℤ, pos, ◌+ℤ◌, Bool, if◌then◌else◌, List, [], ◌∷◌, ◌++◌, Option, Some, None, option_map, unwrap_or, is_some, get_or, codes, decimal}
 use Rattle.std.specs.Fmt.{signed_decimal}
 use Rattle.bitlane.specs.Bits.{bit, tabulate}
 use Rattle.colbase.specs.Arrays.{Array, primitive}
-use Rattle.colbase.specs.declared.validity.Validity.TheVariants as validity
-use Rattle.colbase.specs.declared.values.PrimitiveValues.TheVariants.{I64}
+use Rattle.coltypes.specs.declared.validity.Validity.TheVariants as validity
+use Rattle.coltypes.specs.declared.values.PrimitiveValues.TheVariants.{I64}
 use Rattle.rowexec.specs.Rows.{full_cells}
-use Rattle.rowrun.specs.Functions.{exact_sum}
-use Rattle.rowrun.specs.Text.{line}
+use Rattle.rowsample.specs.Functions.{exact_sum}
+use Rattle.rowjson.specs.Text.{line}
 use Rattle.rowrun.specs.declared.generator.column.Pattern.{Pattern}
 
 -- ---- the columns

@@ -1,16 +1,6 @@
 pub mod Batch
 pub mod BatchView
-pub mod Columns
-pub mod DtypeOf
 pub mod Faults
-pub mod Functions
 pub mod Generator
-pub mod Objects
-pub mod Powers
-pub mod Reading
 pub mod Results
-pub mod Scalars
-pub mod Shows
-pub mod Text
-pub mod Types
 pub mod Words

@@ -1,12 +1,13 @@
--- What the call of a batch answers: the column that is its result, or the faults that have a cause.
+-- What the call of a batch answers: the column that is its result, or the faults that have a cause. Both are those of an engine's call of
+-- the function, by its meaning.
 use Rattle.std.specs.Prelude.{◌≡◌, ℕ, ◌<◌, Bool, true, false, ◌||◌, List, length, get_or, Option, None}
 use Rattle.std.specs.Int.{is_positive}
 use Rattle.colbase.specs.Arrays.{Array}
-use Rattle.colbase.specs.Cell.{Cell}
+use Rattle.coltypes.specs.Cell.{Cell}
 use Rattle.colbase.specs.Column.{Column}
-use Rattle.colbase.specs.LogicalType.{LogicalType}
-use Rattle.colbase.specs.declared.fault.Fault.{Fault}
-use Rattle.colbase.specs.declared.fault.Fault.TheVariants.{Memory}
+use Rattle.coltypes.specs.LogicalType.{LogicalType}
+use Rattle.coltypes.specs.declared.fault.Fault.{Fault}
+use Rattle.coltypes.specs.declared.fault.Fault.TheVariants.{Memory}
 use Rattle.rowplan.specs.Outcomes.{Outcome}
 use Rattle.rowplan.specs.Outputs.{Output}
 use Rattle.rowplan.specs.declared.batch_plan.RowPolicy.TheVariants.{Dense, DenseWithRetry, ValidOnly}
@@ -14,7 +15,7 @@ use Rattle.rowexec.specs.Batch.{Cause, Fits, Planned, StatedAs}
 use Rattle.rowexec.specs.Evidence.{EvidenceFails, joined}
 use Rattle.rowexec.specs.Rows.{StrictRow, full_cells, types_of}
 use Rattle.rowrun.specs.Batch.{Batch}
-use Rattle.rowrun.specs.Functions.{accepts_i64, accepts_rescale, accepts_timestamp, checked_sums, i64_output, never_refused, reads_i64, reads_rescale, refused_where, rescaled, truncated, truncated_output, wrapping_sums}
+use Rattle.rowsample.specs.Functions.{accepts_i64, accepts_rescale, accepts_timestamp, checked_sums, i64_output, never_refused, reads_i64, reads_rescale, refused_where, rescaled, truncated, truncated_output, wrapping_sums}
 use Rattle.rowrun.specs.declared.batch.Call.{Call}
 use Rattle.rowrun.specs.declared.batch.Call.TheVariants.{WrappingAdd, CheckedAdd, Rescale, Truncate}
 

@@ -1,23 +1,24 @@
--- The words that the call knows, and what they and the bytes of an input lead to.
+-- The words that the call knows, and what they and the bytes of an input lead to. Each answer says that the engine was called, where it was.
 use Rattle.std.specs.Prelude.{◌≡◌, ◌≤◌, ℕ, Bool, false, ◌&&◌, nat_le, if◌then◌else◌, List, [], ◌∷◌, map, String, string_bytes, Option, Some, None, IsSome, codes, decimal}
 use Rattle.std.specs.declared.alloc.Global.{Global}
 use Rattle.std.specs.Str.{bytes_eq}
 use Rattle.std.specs.Str.Parse.{digits_value}
 use Rattle.colbase.specs.Column.{Column}
-use Rattle.colbase.specs.declared.fault.Fault as f
+use Rattle.coltypes.specs.declared.fault.Fault as f
 use Rattle.rowtext.specs.declared.command.Command.{Command}
 use Rattle.rowtext.specs.declared.command.Command.TheVariants.{WithoutInput}
-use Rattle.rowtext.specs.declared.plan.Answer.{Answer}
-use Rattle.rowtext.specs.declared.plan.Answer.TheVariants.{Form, Unbuilt, Fault, Printed}
-use Rattle.rowtext.specs.declared.plan.Plan.{Plan}
+use Rattle.rowtext.specs.declared.reply.Answer.{Answer}
+use Rattle.rowtext.specs.declared.reply.Answer.TheVariants.{Form, Unbuilt, Fault, Printed}
+use Rattle.rowtext.specs.declared.reply.Reply.{Reply}
 use Rattle.rowtext.specs.Bytes.{IsProperPrefix}
 use Rattle.rowtext.specs.Changes.{Change, HasFailed, IsUntouched, Gained}
 use Rattle.rowtext.specs.Causes.{HasCause, input_command}
-use Rattle.rowrun.specs.Batch.{Batch, json_of, batch_of}
+use Rattle.rowrun.specs.Batch.{Batch, batch_of}
+use Rattle.rowjson.specs.Objects.{json_of}
 use Rattle.rowrun.specs.Faults.{fault_text}
 use Rattle.rowrun.specs.Generator.{most_rows, summary}
 use Rattle.rowrun.specs.Results.{IsResult, HasFault}
-use Rattle.rowrun.specs.Text.{text}
+use Rattle.rowjson.specs.Text.{text}
 
 -- ---- words
 
@@ -66,9 +67,9 @@ WordsLead called words Unbuilt = ⊥
 WordsLead called words (Fault t) = ⊥
 WordsLead called words (Printed t) = called × (n : ℕ) × (rows_asked words ≡ Some n) × (t ≡ summary n)
 
--- the plan has its cause in a call with these words that did this to its source, where the engine was called
-abbrev pub Cause : Type 0 → List (String Global) → Change → Plan → Type 0
-Cause called words source plan = HasCause (command_of (map string_bytes words)) (WordsLead called (map string_bytes words)) (Leads called) source plan
+-- the reply has its cause in a call with these words that did this to its source, where the engine was called
+abbrev pub CauseOfReply : Type 0 → List (String Global) → Change → Reply → Type 0
+CauseOfReply called words source reply = HasCause (command_of (map string_bytes words)) (WordsLead called (map string_bytes words)) (Leads called) source reply
 
 -- How a call that generates n rows ends: its whole summary was written, or a proper prefix of it where the sink failed, or memory ran out before the first write.
 -- Where the engine wasn't called nothing was written.

@@ -1,9 +1,6 @@
-// A call and its arguments.
-use crate::functions::TruncateOptions;
+// A call and its arguments. The functions are told apart by an enum, so that reading a batch needs no type parameter.
 use colbase::ExecutionArgs;
-
-/// The most rows that a batch or a constant may have.
-pub(crate) const MAX_ROWS: u64 = 1_048_576;
+use rowsample::TruncateOptions;
 
 /// The functions that a batch may call.
 #[derive(Clone, Copy, Debug, PartialEq, Eq)]

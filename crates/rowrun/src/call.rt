@@ -1,34 +1,34 @@
-// The call from bytes to bytes.
+// The call from bytes to bytes. How it reads and writes is the crate rowtext's; this file states what words and bytes lead to.
 ghost use Rattle.std.specs.Prelude.{◌≡◌, ◌≤◌, ◌⊎◌, ℕ, List, true, false, map, Some, ⊤, IfOk, IfErr, string_bytes};
 ghost use Rattle.colbase.specs.Arrays.{column, dtype};
 ghost use Rattle.colbase.specs.Column.{Column};
-ghost use Rattle.colbase.specs.declared.fault.Fault as refusals;
+ghost use Rattle.coltypes.specs.declared.fault.Fault as refusals;
 ghost use Rattle.rowexec.specs.Calls.{Raised};
-ghost use Rattle.rowtext.specs.declared.plan.Plan.{Plan};
-ghost use Rattle.rowtext.specs.declared.plan.Plan.TheVariants.{Usage, Unread, Long, Answered};
-ghost use Rattle.rowtext.specs.declared.plan.Answer.TheVariants.{Form, Unbuilt};
+ghost use Rattle.rowtext.specs.declared.reply.Reply.{Reply};
+ghost use Rattle.rowtext.specs.declared.reply.Reply.TheVariants.{Usage, Unread, Long, Answered};
+ghost use Rattle.rowtext.specs.declared.reply.Answer.TheVariants.{Form, Unbuilt};
 ghost use Rattle.rowtext.specs.Bytes.{IsProperPrefix};
-ghost use Rattle.rowtext.specs.Plans.{plan_text};
+ghost use Rattle.rowtext.specs.Replies.{reply_text};
 ghost use Rattle.rowtext.specs.Changes.{change, HasFailed, IsSteady, IsUntouched, Gained, TookAll, TookTooMany};
 ghost use Rattle.rowtext.specs.Outcomes.{Did, Ends, IsAnswer, InputLeads, WroteWhole};
 ghost use Rattle.rowrun.specs.Batch.{Batch as StatedBatch, batch_of};
 ghost use Rattle.rowrun.specs.BatchView.{batch_view};
 ghost use Rattle.rowrun.specs.Faults.{fault_text};
 ghost use Rattle.rowrun.specs.Results.{CauseOf, HasFault, IsResult};
-ghost use Rattle.rowrun.specs.Shows.{is_printed};
-ghost use Rattle.rowrun.specs.Text.{text};
+ghost use Rattle.rowjson.specs.Text.{is_printed};
+ghost use Rattle.rowjson.specs.Text.{text};
 ghost use Rattle.rowrun.specs.Generator.{summary};
-ghost use Rattle.rowrun.specs.Words.{is_run, Cause, Generates, IsGen, Leads};
+ghost use Rattle.rowrun.specs.Words.{is_run, CauseOfReply, Generates, IsGen, Leads};
 
 use crate::batch::{Batch, Call};
 use crate::fault::fault_text;
-use crate::functions::{CheckedAdd, Rescale, Truncate, WrappingAdd};
 use crate::generator::summary_of;
 use crate::input::{InputStop, read_batch};
-use crate::print::text_of;
 use crate::words::{is_run, rows_asked};
 use colbase::{ArrayRef, EmptyOptions, ExecutionCtx, Fault, Res};
 use rowexec::RowEngine;
+use rowjson::text_of;
+use rowsample::{CheckedAdd, Rescale, Truncate, WrappingAdd};
 use rowtext::{Answer, Command, Sink, Source, Text, TopCall, conduct};
 use std::alloc::{AllocError, Global};
 
@@ -147,7 +147,7 @@ pub fn run<E: RowEngine, S: Source, K: Sink>(
     sink: &mut K,
 ) -> u8
     // Each status has its cause, and what was written goes with it.
-    ensures ends { Ends (Cause (Raised (E.calls engine.old) (E.calls engine.new)) words.now (change S.left S.faults source.old source.new)) result (change K.held K.faults sink.old sink.new) }
+    ensures ends { Ends (CauseOfReply (Raised (E.calls engine.old) (E.calls engine.new)) words.now (change S.left S.faults source.old source.new)) result (change K.held K.faults sink.old sink.new) }
 
     // Statuses 0 and 3: the engine was called.
     ensures called { (result ≡ 0) ⊎ (result ≡ 3) → Raised (E.calls engine.old) (E.calls engine.new) }
@@ -163,16 +163,16 @@ pub fn run<E: RowEngine, S: Source, K: Sink>(
         (λ bytes. (b : StatedBatch) × (batch_of bytes ≡ Some b) × (e : refusals.Fault) × HasFault b e × Gained (change K.held K.faults sink.old sink.new) (fault_text e)) }
 
     // Statuses 1, 2, 5, 7 and 8: the cause, and the word.
-    ensures usage { result ≡ 1 → Did (Cause (Raised (E.calls engine.old) (E.calls engine.new)) words.now (change S.left S.faults source.old source.new)) (change K.held K.faults sink.old sink.new) Usage }
-    ensures form { result ≡ 2 → Did (Cause (Raised (E.calls engine.old) (E.calls engine.new)) words.now (change S.left S.faults source.old source.new)) (change K.held K.faults sink.old sink.new) (Answered Form) }
-    ensures unread { result ≡ 5 → Did (Cause (Raised (E.calls engine.old) (E.calls engine.new)) words.now (change S.left S.faults source.old source.new)) (change K.held K.faults sink.old sink.new) Unread }
-    ensures long { result ≡ 7 → Did (Cause (Raised (E.calls engine.old) (E.calls engine.new)) words.now (change S.left S.faults source.old source.new)) (change K.held K.faults sink.old sink.new) Long }
-    ensures unbuilt { result ≡ 8 → Did (Cause (Raised (E.calls engine.old) (E.calls engine.new)) words.now (change S.left S.faults source.old source.new)) (change K.held K.faults sink.old sink.new) (Answered Unbuilt) }
+    ensures usage { result ≡ 1 → Did (CauseOfReply (Raised (E.calls engine.old) (E.calls engine.new)) words.now (change S.left S.faults source.old source.new)) (change K.held K.faults sink.old sink.new) Usage }
+    ensures form { result ≡ 2 → Did (CauseOfReply (Raised (E.calls engine.old) (E.calls engine.new)) words.now (change S.left S.faults source.old source.new)) (change K.held K.faults sink.old sink.new) (Answered Form) }
+    ensures unread { result ≡ 5 → Did (CauseOfReply (Raised (E.calls engine.old) (E.calls engine.new)) words.now (change S.left S.faults source.old source.new)) (change K.held K.faults sink.old sink.new) Unread }
+    ensures long { result ≡ 7 → Did (CauseOfReply (Raised (E.calls engine.old) (E.calls engine.new)) words.now (change S.left S.faults source.old source.new)) (change K.held K.faults sink.old sink.new) Long }
+    ensures unbuilt { result ≡ 8 → Did (CauseOfReply (Raised (E.calls engine.old) (E.calls engine.new)) words.now (change S.left S.faults source.old source.new)) (change K.held K.faults sink.old sink.new) (Answered Unbuilt) }
 
     // Status 6: the sink failed, before the whole of a text that has its cause.
-    ensures cut { result ≡ 6 → (plan : Plan) × Cause (Raised (E.calls engine.old) (E.calls engine.new)) words.now (change S.left S.faults source.old source.new) plan
+    ensures cut { result ≡ 6 → (reply : Reply) × CauseOfReply (Raised (E.calls engine.old) (E.calls engine.new)) words.now (change S.left S.faults source.old source.new) reply
         × HasFailed (change K.held K.faults sink.old sink.new)
-        × (prefix : List ℕ) × IsProperPrefix prefix (plan_text plan) × Gained (change K.held K.faults sink.old sink.new) prefix }
+        × (prefix : List ℕ) × IsProperPrefix prefix (reply_text reply) × Gained (change K.held K.faults sink.old sink.new) prefix }
 
     // Status 4: nothing was written.
     ensures memory { result ≡ 4 → IsUntouched (change K.held K.faults sink.old sink.new) }
@@ -185,12 +185,12 @@ pub fn run<E: RowEngine, S: Source, K: Sink>(
 
     // Other words give status 1, unless the sink fails.
     ensures refused { is_run (map string_bytes words.now) ≡ false → ((n : ℕ) → IsGen (map string_bytes words.now) n → ⊥) → IsSteady (change K.held K.faults sink.old sink.new)
-        → WroteWhole (λ plan. plan ≡ Usage) result (change K.held K.faults sink.old sink.new) }
+        → WroteWhole (λ reply. reply ≡ Usage) result (change K.held K.faults sink.old sink.new) }
 
     // More bytes than the limit give status 7, unless the sink fails.
     ensures too_long { (bytes : List ℕ) → is_run (map string_bytes words.now) ≡ true → S.left source.old ≡ Some bytes
         → TookTooMany (change S.left S.faults source.old source.new) → IsSteady (change K.held K.faults sink.old sink.new)
-        → WroteWhole (λ plan. plan ≡ Long) result (change K.held K.faults sink.old sink.new) }
+        → WroteWhole (λ reply. reply ≡ Long) result (change K.held K.faults sink.old sink.new) }
 
     // Where all the bytes were taken and the status is not that of a failed reading, they alone decide, unless the sink fails.
     ensures exact { (bytes : List ℕ) → is_run (map string_bytes words.now) ≡ true → S.left source.old ≡ Some bytes

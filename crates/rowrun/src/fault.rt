@@ -1,4 +1,4 @@
-// The line of a fault.
+// The line of a fault. Each variant is named here, so that a renamed type changes no text.
 ghost use Rattle.std.specs.Prelude.{◌≡◌, ◌++◌, IfOk, OnOk};
 ghost use Rattle.std.specs.List.{flat_map};
 ghost use Rattle.rowrun.specs.Faults.{fault_line, fault_text, number_text};

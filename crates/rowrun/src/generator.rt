@@ -1,13 +1,14 @@
-// The two columns that `gen` makes, and the summary of their checked sums.
+// The two columns that `gen` makes, and the summary of their checked sums. The sums are the engine's, so that a measurement of the
+// program measures the call of a row function.
 ghost use Rattle.std.specs.Prelude.{◌≡◌, ◌≤◌, ◌<◌, ℕ, true, option_map, IfOk, IfErr, OnOk};
 ghost use Rattle.colbase.specs.Arrays.{dtype, len, row};
-ghost use Rattle.colbase.specs.Cell.{number};
-ghost use Rattle.colbase.specs.declared.dtype.PType.TheVariants.{I64};
-ghost use Rattle.colbase.specs.declared.fault.Fault.TheVariants.{Memory};
-ghost use Rattle.rowtypes.specs.Reading.{is_integer};
+ghost use Rattle.coltypes.specs.Cell.{number};
+ghost use Rattle.coltypes.specs.declared.dtype.PType.TheVariants.{I64};
+ghost use Rattle.coltypes.specs.declared.fault.Fault.TheVariants.{Memory};
+ghost use Rattle.rowelems.specs.Reading.{is_integer};
 ghost use Rattle.rowexec.specs.Calls.{Raised};
 ghost use Rattle.rowrun.specs.Generator.{most_rows, sum_at, summary};
-ghost use Rattle.rowrun.specs.Shows.{Shows};
+ghost use Rattle.rowjson.specs.Shows.{Shows};
 
 use crate::batch::{Batch, Call};
 use crate::call::execute;

@@ -1,18 +1,19 @@
-// A batch from the bytes that state it.
+// A batch from the bytes that state it: the called function by its name and options, its number of rows, and the columns.
 ghost use Rattle.std.specs.Prelude.{◌≡◌, IfOk, IsErrOf, IsSome, Some, None};
-ghost use Rattle.serde_json.specs.View.{view, items_view};
-ghost use Rattle.rowrun.specs.Batch.{call_in, batch_in, json_of, batch_of, ticks_in, without_options};
+ghost use Rattle.serde_json.specs.View.{view};
+ghost use Rattle.rowrun.specs.Batch.{call_in, batch_in, batch_of, ticks_in, without_options};
+ghost use Rattle.rowjson.specs.Objects.{json_of};
 ghost use Rattle.rowrun.specs.BatchView.{batch_view};
-ghost use Rattle.rowrun.specs.Columns.{columns_in};
-ghost use Rattle.rowrun.specs.Reading.{Gives};
+ghost use Rattle.rowjson.specs.Reading.{Gives};
 
-use crate::batch::{Batch, Call, MAX_ROWS};
-use crate::column::column_in;
-use crate::functions::TruncateOptions;
-use crate::tree::{JsonStop, Stop, array_in, has_keys, integer_in, json_in, number_in, text_in};
-use colbase::{ArrayRef, ExecutionArgs, ExecutionCtx};
+use crate::batch::{Batch, Call};
+use colbase::{ExecutionArgs, ExecutionCtx};
+use rowjson::{
+    JsonStop, MAX_ROWS, Stop, array_in, columns_in, has_keys, integer_in, json_in, number_in,
+    text_in,
+};
+use rowsample::TruncateOptions;
 use serde_json::Value;
-use std::alloc::Global;
 
 /// Why bytes state no batch.
 #[derive(Debug, Drop)]
@@ -61,17 +62,6 @@ fn call_in(name: &str, options: &Value) -> Option<Call>
         }
         _ => None,
     }
-}
-
-/// The columns, in their order.
-fn columns_in(items: &[Value], ctx: ExecutionCtx) -> Result<Vec<ArrayRef>, Stop>
-    ensures { Gives (λ v. v.items) result (columns_in (items_view items.now)) }
-{
-    let mut columns = Vec::with_capacity(ctx.alloc(), items.len())?;
-    for item in items {
-        columns.push(column_in(item, ctx)?)?;
-    }
-    Ok(columns)
 }
 
 #[tactic(auto, unfolding(crate::specs::Batch::batch_in))]

@@ -4,24 +4,15 @@
 
 mod batch;
 mod call;
-mod column;
 mod fault;
-mod functions;
 mod generator;
 mod input;
-mod print;
-mod tree;
 mod words;
 
 pub use call::run;
-pub use functions::{CheckedAdd, Rescale, Truncate, TruncateOptions, WrappingAdd};
 pub use rowexec::{CallEngine, RowEngine};
+pub use rowsample::{CheckedAdd, Rescale, Truncate, TruncateOptions, WrappingAdd};
 pub use rowtext::{
     MemorySink, MemorySource, NullSink, Sink, SinkFailed, Source, SourceFailed, StdSink, StdSource,
     SteadySource,
 };
-
-#[cfg(test)]
-mod tests;
-#[cfg(test)]
-mod worked;

@@ -1,4 +1,4 @@
-// The words that the call knows.
+// The words that the call knows. A number is compared with the text that it prints, so that it has one spelling.
 ghost use Rattle.std.specs.Prelude.{◌≡◌, ◌↔◌, ℕ, List, map, Some, string_bytes};
 ghost use Rattle.rowrun.specs.Words.{IsGen, count_in, is_run, rows_asked};
 

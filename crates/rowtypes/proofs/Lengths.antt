@@ -1,7 +1,8 @@
 -- Rows of decoded columns of one length.
 use Rattle.std.proofs.Common.{◌≡◌, ℕ, ◌<◌, Bool, true, false, ◌&&◌, List, [], ◌∷◌, Option, None, Some, refl, arith}
 use Rattle.std.proofs.lemmas.Bool.Decides.{nat_tests}
-use Rattle.rowtypes.specs.Rows.{HasRow, IsWithin, is_length, each_length}
+use Rattle.rowtypes.specs.Rows.{HasRow, each_length}
+use Rattle.rowelems.specs.Argument.{IsWithin, is_length}
 
 pub both_true : (a b : Bool) → (a && b) ≡ true → (a ≡ true) × (b ≡ true)
 both_true true b h = (refl, h)

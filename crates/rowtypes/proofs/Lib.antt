@@ -1,13 +1,5 @@
-pub mod Causes
 pub mod Lowest
-pub mod Payload
-pub mod Types
-pub mod Timestamps
-pub mod Bits
 pub mod Results
-pub mod Numbers
-pub mod Columns
 pub mod Lengths
-pub mod ReadNumbers
 pub mod Sides
 pub mod SidesFail

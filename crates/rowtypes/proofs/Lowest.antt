@@ -1,9 +1,10 @@
 -- Which argument is named where one is not decoded.
 use Rattle.std.proofs.Common.{◌≡◌, ℕ, suc, ◌<◌, List, [], ◌∷◌, length, get_or, inl, inr, refl, subst, ap, ◌∙◌, arith}
 use Rattle.colbase.specs.Arrays.{Array}
-use Rattle.colbase.specs.Cell.{Cell}
-use Rattle.colbase.specs.declared.fault.Fault.{Fault}
-use Rattle.rowtypes.specs.Rows.{ArgumentFails, DecodeFails, ReadsAll, ReadsAllFrom, shown_from}
+use Rattle.coltypes.specs.Cell.{Cell}
+use Rattle.coltypes.specs.declared.fault.Fault.{Fault}
+use Rattle.rowelems.specs.Argument.{ArgumentFails, ReadsAll}
+use Rattle.rowtypes.specs.Rows.{DecodeFails, ReadsAllFrom, shown_from}
 
 pub fails_here : (reads : ℕ → Cell → Type 0) (k : ℕ) (a : Array) (arrays : List Array) (e : Fault) → ArgumentFails (reads k) k a e → DecodeFails reads k (a ∷ arrays) e
 fails_here reads k a arrays e (inl m) = inl m

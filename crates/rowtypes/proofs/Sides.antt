@@ -1,11 +1,12 @@
 -- Two tuples side by side, over their columns one after the other.
 use Rattle.std.proofs.Common.{◌≡◌, ℕ, suc, ◌+◌, ◌-◌, ◌<◌, ◌≤◌, Bool, true, false, ◌&&◌, nat_lt, List, [], ◌∷◌, ◌++◌, length, Option, refl, sym, ap, ◌∙◌, subst, arith}
 use Rattle.std.proofs.lemmas.Bool.Decides.{nat_tests}
-use Rattle.colbase.specs.Cell.{Cell}
-use Rattle.colbase.specs.LogicalType.{LogicalType}
+use Rattle.coltypes.specs.Cell.{Cell}
+use Rattle.coltypes.specs.LogicalType.{LogicalType}
 use Rattle.colbase.specs.Arrays.{Array, dtype, len}
-use Rattle.rowtypes.specs.Shown.{batch_value}
-use Rattle.rowtypes.specs.Rows.{AcceptsFrom, HasRow, ReadsAllFrom, ReadsFrom, all_tolerant, batch_values, decoded_lengths, each_length, is_length, length_unless, shown_from}
+use Rattle.rowelems.specs.Shown.{batch_value}
+use Rattle.rowtypes.specs.Rows.{AcceptsFrom, HasRow, ReadsAllFrom, ReadsFrom, all_tolerant, batch_values, decoded_lengths, each_length, shown_from}
+use Rattle.rowelems.specs.Argument.{is_length, length_unless}
 use Rattle.rowtypes.specs.SideBySide.{choose, side_by_side, choose_reads, reads_side_by_side}
 
 below : (k n : ℕ) → k < n → nat_lt k n ≡ true

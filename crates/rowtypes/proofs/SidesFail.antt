@@ -1,13 +1,14 @@
 -- Which argument of two tuples side by side is refused or not decoded.
 use Rattle.std.proofs.Common.{◌≡◌, ℕ, suc, ◌+◌, ◌-◌, ◌^◌, ◌<◌, min, Bool, true, false, cond, List, [], ◌∷◌, ◌++◌, length, Option, None, Some, Ok, Err, inl, inr, refl, sym, ap, ◌∙◌, arith}
-use Rattle.colbase.specs.Cell.{Cell}
-use Rattle.colbase.specs.LogicalType.{LogicalType}
-use Rattle.colbase.specs.LogicalTypeOf.{logical_type}
+use Rattle.coltypes.specs.Cell.{Cell}
+use Rattle.coltypes.specs.LogicalType.{LogicalType}
+use Rattle.coltypes.specs.LogicalTypeOf.{logical_type}
 use Rattle.colbase.specs.Arrays.{Array}
-use Rattle.colbase.specs.declared.dtype.DType.{DType}
-use Rattle.colbase.specs.declared.fault.Fault.{Fault}
-use Rattle.colbase.specs.declared.fault.Fault.TheVariants.{Decode, Dtype}
-use Rattle.rowtypes.specs.Rows.{DecodeFails, FirstUnread, ReadsAllFrom, checked_types, first_refused, logical_types, placed}
+use Rattle.coltypes.specs.declared.dtype.DType.{DType}
+use Rattle.coltypes.specs.declared.fault.Fault.{Fault}
+use Rattle.coltypes.specs.declared.fault.Fault.TheVariants.{Decode, Dtype}
+use Rattle.rowtypes.specs.Rows.{DecodeFails, FirstUnread, ReadsAllFrom, checked_types, first_refused, logical_types}
+use Rattle.rowelems.specs.Argument.{placed}
 use Rattle.rowtypes.specs.SideBySide.{side_by_side, reads_side_by_side}
 use Rattle.rowtypes.proofs.Sides.{at_first, at_second, reads_first, reads_second}
 

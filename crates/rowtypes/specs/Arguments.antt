@@ -1,30 +1,12 @@
--- An argument that is one value or a decoded column.
-use Rattle.std.specs.Prelude.{ℕ, zero, suc, Option, None, Some, [], ◌∷◌, ◌≡◌, refl, false}
-use Rattle.colbase.specs.Cell.{Cell, truth}
+-- Tuples of up to four arguments: what each place has, and the laws of tuples, which ghost members cite.
+use Rattle.std.specs.Prelude.{ℕ, zero, suc, None, Some, [], ◌∷◌, ◌≡◌, refl, false}
+use Rattle.coltypes.specs.Cell.{Cell, truth}
 use Rattle.colbase.specs.Arrays.{Array, row}
-use Rattle.rowtypes.specs.Shown.{batch_value, shown_by, shown_by_constant, shown_by_row}
+use Rattle.rowelems.specs.Shown.{batch_value, shown_by, shown_by_constant, shown_by_row}
+use Rattle.rowelems.specs.Argument.{arg_shows, arg_value}
 use Rattle.rowtypes.specs.Rows.{AgreesAt, AgreesWith}
-use Rattle.rowtypes.specs.declared.arg_column.ArgColumn.{ArgColumn}
-use Rattle.rowtypes.specs.declared.arg_column.ArgColumn.TheVariants.{Value, Column}
-
--- the cell that an argument shows at row i
-abbrev pub arg_shows : {T C K E : Type 0} → (C → ℕ → Cell) → (K → Cell) → ArgColumn T C K E → ℕ → Cell
-arg_shows shows cell (Value k) i = cell k
-arg_shows shows cell (Column c) i = shows c i
-
--- the cell of an argument that is one value
-abbrev pub arg_value : {T C K E : Type 0} → (K → Cell) → ArgColumn T C K E → Option Cell
-arg_value cell (Value k) = Some (cell k)
-arg_value cell (Column c) = None
-
--- the length of an argument that is a decoded column
-abbrev pub arg_length : {T C K E : Type 0} → (C → ℕ) → ArgColumn T C K E → Option ℕ
-arg_length count (Value k) = None
-arg_length count (Column c) = Some (count c)
-
-abbrev pub known_cell : {X : Type 0} → (X → Cell) → Option X → Option Cell
-known_cell cell None = None
-known_cell cell (Some x) = Some (cell x)
+use Rattle.rowelems.specs.declared.arg_column.ArgColumn.{ArgColumn}
+use Rattle.rowelems.specs.declared.arg_column.ArgColumn.TheVariants.{Value, Column}
 
 pub value_agrees : {T C K E : Type 0} (shows : C → ℕ → Cell) (cell : K → Cell) (a : ArgColumn T C K E) (i : ℕ) → AgreesAt (arg_value cell a) (arg_shows shows cell a i)
 value_agrees shows cell (Value k) i = refl

@@ -1,11 +1,4 @@
-pub mod Shown
-pub mod Unmasked
-pub mod Reading
-pub mod Elements
-pub mod Scales
-pub mod Outputs
-pub mod Places
-pub mod Filled
+-- What tuples of arguments accept, read and show, place by place.
 pub mod Rows
 pub mod Arguments
 pub mod SideBySide

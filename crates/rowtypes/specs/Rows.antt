@@ -1,19 +1,16 @@
--- Rows of several arguments. Each word counts the places of the arguments up from the one that is given.
-use Rattle.std.specs.Prelude.{◌≡◌, ℕ, suc, ◌<◌, Bool, true, ◌&&◌, List, [], ◌∷◌, Option, None, Some, Result, Ok, Err, ⊤, ◌⊎◌, cond, nat_eq, min, ◌+◌, ◌-◌, ◌^◌}
-use Rattle.colbase.specs.Cell.{Cell}
-use Rattle.colbase.specs.LogicalType.{LogicalType}
-use Rattle.colbase.specs.LogicalTypeOf.{logical_type}
+-- Rows of several arguments. Each word counts the places of the arguments up from the one that is given, so that the
+-- rest of a list is a list of arguments too.
+use Rattle.std.specs.Prelude.{◌≡◌, ℕ, suc, Bool, true, ◌&&◌, List, [], ◌∷◌, Option, None, Some, Result, Ok, Err, ⊤, ◌⊎◌, cond}
+use Rattle.coltypes.specs.Cell.{Cell}
+use Rattle.coltypes.specs.LogicalType.{LogicalType}
+use Rattle.coltypes.specs.LogicalTypeOf.{logical_type}
 use Rattle.colbase.specs.Arrays.{Array, len, dtype}
-use Rattle.colbase.specs.declared.dtype.DType.{DType}
-use Rattle.colbase.specs.declared.fault.Fault.{Fault}
-use Rattle.colbase.specs.declared.fault.Fault.TheVariants.{Dtype, Decode, Memory}
-use Rattle.colbase.specs.Arrays.{MustRead}
-use Rattle.rowtypes.specs.Shown.{batch_value}
-use Rattle.rowtypes.specs.Reading.{Unread}
-
--- each cell that a reader of the array must be able to read is read
-abbrev pub ReadsAll : (Cell → Type 0) → Array → Type 0
-ReadsAll reads a = (x : Cell) → MustRead a x → reads x
+use Rattle.coltypes.specs.declared.dtype.DType.{DType}
+use Rattle.coltypes.specs.declared.fault.Fault.{Fault}
+use Rattle.coltypes.specs.declared.fault.Fault.TheVariants.{Dtype, Decode, Memory}
+use Rattle.rowelems.specs.Shown.{batch_value}
+use Rattle.rowelems.specs.Argument.{ReadsAll, IsWithin, is_length, length_unless}
+use Rattle.rowelems.specs.Reading.{Unread}
 
 abbrev pub logical_types : List DType → List LogicalType
 logical_types [] = []
@@ -53,12 +50,6 @@ abbrev pub FirstUnread : (ℕ → Cell → Type 0) → ℕ → List Array → �
 FirstUnread reads k [] j = ⊥
 FirstUnread reads k (a ∷ arrays) j = ((j ≡ k) × Unread (reads k) a) ⊎ (ReadsAll (reads k) a × FirstUnread reads (suc k) arrays j)
 
--- the fault of the first place as that of place k
-abbrev pub placed : ℕ → Fault → Fault
-placed k (Decode j) = Decode (min (j + k) (2 ^ 64 - 1))
-placed k (Dtype j) = Dtype (min (j + k) (2 ^ 64 - 1))
-placed k e = e
-
 -- the fault names the lowest argument that has a cell that is not read
 pub record NamesUnread (reads : ℕ → Cell → Type 0) (k : ℕ) (arrays : List Array) (e : Fault) : Type 0 where
   pub place : ℕ
@@ -69,36 +60,20 @@ pub record NamesUnread (reads : ℕ → Cell → Type 0) (k : ℕ) (arrays : Lis
 abbrev pub DecodeFails : (ℕ → Cell → Type 0) → ℕ → List Array → Fault → Type 0
 DecodeFails reads k arrays e = (e ≡ Memory) ⊎ NamesUnread reads k arrays e
 
--- why the argument at place k is not decoded
-abbrev pub ArgumentFails : (Cell → Type 0) → ℕ → Array → Fault → Type 0
-ArgumentFails reads k a e = (e ≡ Memory) ⊎ ((e ≡ Decode k) × Unread reads a)
-
 -- the values of the arguments that are one value
 abbrev pub batch_values : List Array → List (Option Cell)
 batch_values [] = []
 batch_values (a ∷ arrays) = batch_value a ∷ batch_values arrays
-
-abbrev pub length_unless : Option Cell → ℕ → Option ℕ
-length_unless None n = Some n
-length_unless (Some c) n = None
 
 -- the lengths of the arguments that are decoded as columns
 abbrev pub decoded_lengths : List Array → List (Option ℕ)
 decoded_lengths [] = []
 decoded_lengths (a ∷ arrays) = length_unless (batch_value a) (len a) ∷ decoded_lengths arrays
 
-abbrev pub IsWithin : ℕ → Option ℕ → Type 0
-IsWithin i None = ⊤
-IsWithin i (Some n) = i < n
-
 -- the index is below the length of each decoded column
 abbrev pub HasRow : List (Option ℕ) → ℕ → Type 0
 HasRow [] i = ⊤
 HasRow (n ∷ lengths) i = IsWithin i n × HasRow lengths i
-
-abbrev pub is_length : ℕ → Option ℕ → Bool
-is_length rows None = true
-is_length rows (Some n) = nat_eq n rows
 
 -- each decoded column has this many rows
 abbrev pub each_length : ℕ → List (Option ℕ) → Bool

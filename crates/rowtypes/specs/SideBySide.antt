@@ -1,6 +1,7 @@
--- Two tuples side by side: the places of the second come after those of the first.
+-- Two tuples side by side: the places of the second come after those of the first. With the laws of tuples, which
+-- ghost members cite.
 use Rattle.std.specs.Prelude.{ℕ, ◌-◌, Bool, true, false, nat_lt, Option, List, [], ◌∷◌, ◌++◌}
-use Rattle.colbase.specs.Cell.{Cell}
+use Rattle.coltypes.specs.Cell.{Cell}
 use Rattle.colbase.specs.Arrays.{Array}
 use Rattle.rowtypes.specs.Arguments.{ShowsConstant, ShowsRow}
 use Rattle.rowtypes.specs.Rows.{AgreesWith}

@@ -1,8 +1,9 @@
+// Two tuples as one. Every ghost member is that of the first below its arity, and that of the second above.
 ghost use Rattle.std.specs.Prelude.{◌≡◌, ℕ, ◌+◌, Bool, true, ◌&&◌, List, ◌++◌, length, min, ◌-◌, ◌^◌};
 
-use crate::arg_column::at_place;
 use crate::tuple::ElementTuple;
 use colbase::{ArrayRef, DType, ExecutionCtx, Res};
+use rowelems::at_place;
 use std::marker::PhantomData;
 
 /// Two tuples side by side. The arguments of `B` come after those of `A`, and a row is a pair of their rows.

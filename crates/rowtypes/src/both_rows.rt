@@ -1,10 +1,11 @@
-// How a loop over the rows of two tuples side by side gets its source.
+// How a loop over the rows of two tuples side by side gets its source: the first tuple picks the type of its source,
+// then the second, then the loop runs over both.
 ghost use Rattle.std.specs.Prelude.{◌≡◌, ◌<◌, ℕ, true};
 
 use crate::both::Both;
 use crate::rows_visitor::RowsVisitor;
-use crate::sources::SideBySide;
 use crate::tuple::{ElementTuple, IndexedElementTuple};
+use crate::two_sources::SideBySide;
 use bitlane::IndexedSource;
 use std::marker::PhantomData;
 

@@ -1,3 +1,5 @@
+// The trait of loops over the rows of a tuple. A method with a type parameter for the source, since a closure can't
+// have one.
 ghost use Rattle.std.specs.Prelude.{◌≡◌, ◌<◌, ℕ};
 
 use crate::tuple::ElementTuple;

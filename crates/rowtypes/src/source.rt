@@ -1,4 +1,5 @@
-// The rows of a decoded tuple, as items that are read by their index.
+// The rows of a decoded tuple, as items that are read by their index. That each column has the rows is a ghost field,
+// so that reading tests nothing.
 ghost use Rattle.std.specs.Prelude.{◌≡◌, ℕ, true};
 ghost use Rattle.rowtypes.specs.Rows.{each_length};
 

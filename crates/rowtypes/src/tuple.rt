@@ -1,7 +1,9 @@
+// The trait of tuples of elements. Its ghost members go by the place of the argument, so that one definition serves
+// tuples of each length, and two side by side.
 ghost use Rattle.std.specs.Prelude.{◌≡◌, ℕ, Bool, true, false, Ok, IfSome, is_some, ◌&&◌, List, [], ◌∷◌, length, ◌<◌, ⊤, Option, None, Some, IfOk, IfErr};
 
-use crate::element::InputElement;
 use colbase::{ArrayRef, DType, ExecutionCtx, Res};
+use rowelems::InputElement;
 
 mod beside;
 mod flat;
@@ -19,10 +21,10 @@ pub use indexed::IndexedElementTuple;
 /// shows at every row. Each other argument is a decoded column. So the columns may differ in their lengths, and a row
 /// is there where the index is below the length of each decoded column.
 pub trait ElementTuple {
-    ghost use Rattle.colbase.specs.Cell.{Cell};
-    ghost use Rattle.colbase.specs.LogicalType.{LogicalType};
+    ghost use Rattle.coltypes.specs.Cell.{Cell};
+    ghost use Rattle.coltypes.specs.LogicalType.{LogicalType};
     ghost use Rattle.colbase.specs.Arrays.{Array, row};
-    ghost use Rattle.rowtypes.specs.Shown.{batch_value};
+    ghost use Rattle.rowelems.specs.Shown.{batch_value};
     ghost use Rattle.rowtypes.specs.Rows.{AcceptsFrom, AgreesWith, DecodeFails, HasRow, ReadsAllFrom, ReadsFrom, all_tolerant, batch_values, checked_types, decoded_lengths, each_length, first_refused, logical_types, shown_from};
 
     /// The arguments as they are decoded.
@@ -128,7 +130,7 @@ pub trait ElementTuple {
     ghost shown_row: { (k : ℕ) (a : Array) (i : ℕ) (x : Cell) → batch_value a ≡ None → row a i ≡ Some x → shown k a i ≡ x };
 }
 
-ghost use Rattle.colbase.specs.LogicalTypeOf.{logical_type};
+ghost use Rattle.coltypes.specs.LogicalTypeOf.{logical_type};
 
 // Whether the element accepts the type.
 fn accepts_type<T: InputElement>(dtype: &DType) -> bool

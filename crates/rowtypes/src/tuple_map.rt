@@ -1,12 +1,12 @@
-// The answers of a callback to all rows of decoded arguments.
+// The answers of a callback to all rows of decoded arguments, written by index into the places of a buffer.
 ghost use Rattle.std.specs.Prelude.{◌≡◌, ◌<◌, ℕ, true, length, slice_index_or};
 ghost use Rattle.bitlane.specs.Maps.{MapsTo};
 ghost use Rattle.rowtypes.specs.Rows.{each_length};
 
-use crate::output::{OutputBuffer, OutputElement};
 use crate::rows_visitor::RowsVisitor;
 use crate::tuple::{ElementTuple, IndexedElementTuple};
 use bitlane::{IndexedSource, map_into};
+use rowouts::{OutputBuffer, OutputElement};
 
 /// Writes the answer of `apply` to each row at the row's place. There are as many places as rows, and each decoded
 /// column has as many. Whether an argument is one value or a column is told before the loop. This project's own.

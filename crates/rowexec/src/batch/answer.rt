@@ -1,9 +1,9 @@
-// The column that a planned call answers.
+// The column that a planned call answers: the values of the rows that ran, masked, made nullable and put under their label.
 ghost use Rattle.std.specs.Prelude.{◌≡◌, ◌<◌, ℕ, true, None, is_some, IfOk, IfErr};
 ghost use Rattle.colbase.specs.Arrays.{dtype, len, row};
-ghost use Rattle.colbase.specs.Valid.{Covers, valid_at, validity_nullability};
-ghost use Rattle.colbase.specs.declared.dtype.Nullability.TheVariants.{Nullable};
-ghost use Rattle.colbase.specs.declared.fault.Fault.TheVariants.{Memory};
+ghost use Rattle.coltypes.specs.Valid.{Covers, valid_at, validity_nullability};
+ghost use Rattle.coltypes.specs.declared.dtype.Nullability.TheVariants.{Nullable};
+ghost use Rattle.coltypes.specs.declared.fault.Fault.TheVariants.{Memory};
 ghost use Rattle.rowtypes.specs.Rows.{logical_types};
 ghost use Rattle.rowplan.specs.Outputs.{any_nullable, stated_type};
 ghost use Rattle.rowplan.specs.Plans.{PlanOf, plan_of};

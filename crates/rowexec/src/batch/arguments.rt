@@ -1,4 +1,4 @@
-// What a call is given: its number of columns, their lengths and their types.
+// What a call is given: its number of columns, their lengths and their types. They are tested before the function is asked.
 ghost use Rattle.std.specs.Prelude.{◌≡◌, IfOk, MatchResult};
 ghost use Rattle.rowtypes.specs.Rows.{logical_types};
 ghost use Rattle.rowexec.specs.Batch.{Fits, Misfits};

@@ -1,9 +1,10 @@
+// The public calls of a batch that tell no counts, each by the counted call or by the checks that it begins with.
 ghost use Rattle.std.specs.Prelude.{◌≡◌, ◌≢◌, ◌<◌, ◌⊎◌, ℕ, length, is_some, Err, IfOk, IfErr};
 ghost use Rattle.colbase.specs.Arrays.{dtype, len, row};
 ghost use Rattle.bitlane.specs.Bits.{bit};
-ghost use Rattle.colbase.specs.Masks.{mask_bits};
-ghost use Rattle.colbase.specs.LogicalTypeOf.{logical_type};
-ghost use Rattle.colbase.specs.declared.fault.Fault.TheVariants.{Arity, Memory};
+ghost use Rattle.coltypes.specs.Masks.{mask_bits};
+ghost use Rattle.coltypes.specs.LogicalTypeOf.{logical_type};
+ghost use Rattle.coltypes.specs.declared.fault.Fault.TheVariants.{Arity, Memory};
 ghost use Rattle.rowtypes.specs.Rows.{logical_types};
 ghost use Rattle.rowexec.specs.Batch.{Cause, Fits, Misfits, Planned, StatedAs, Unplanned};
 ghost use Rattle.rowexec.specs.Evidence.{EvidenceFails, joined};

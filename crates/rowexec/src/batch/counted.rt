@@ -1,10 +1,11 @@
+// The whole call, with the calls that it took: checks and plan, the answers that need no row, and the runs that the policy chooses.
 ghost use Rattle.std.specs.Prelude.{◌≡◌, ◌≢◌, ◌<◌, ◌≤◌, ◌⊎◌, ℕ, length, true, false, None, Err, IfOk, IfErr, MatchOption, MatchResult, is_some};
 ghost use Rattle.colbase.specs.Arrays.{dtype, len, row};
-ghost use Rattle.colbase.specs.declared.fault.Fault.TheVariants.{Arity, Memory};
+ghost use Rattle.coltypes.specs.declared.fault.Fault.TheVariants.{Arity, Memory};
 ghost use Rattle.rowtypes.specs.Rows.{logical_types};
 ghost use Rattle.rowplan.specs.Plans.{PlanOf};
 ghost use Rattle.rowexec.specs.Batch.{Cause, Fits, Planned, StatedAs};
-ghost use Rattle.colbase.specs.Valid.{Covers, valid_at};
+ghost use Rattle.coltypes.specs.Valid.{Covers, valid_at};
 ghost use Rattle.rowexec.specs.Counts.{dense_accepted, most_prepares, settled, steps_asked};
 ghost use Rattle.rowexec.specs.Evidence.{EvidenceFails, joined};
 ghost use Rattle.rowexec.specs.Reads.{ReadFails};

@@ -1,4 +1,4 @@
-// Execution of rows on what the columns show.
+// Execution of all rows on what the columns show, under nulls too: by the policy, or where there are none.
 ghost use Rattle.std.specs.Prelude.{◌≡◌, ◌⊎◌, length, true};
 ghost use Rattle.rowtypes.specs.Rows.{DecodeFails, decoded_lengths, each_length, logical_types};
 ghost use Rattle.rowexec.specs.Batch.{Planned};

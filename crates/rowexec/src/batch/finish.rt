@@ -1,9 +1,10 @@
-// From the values of all rows to the column that a batch answers.
+// From the values of all rows to the column that a batch answers: the mask of the full rows, and the nullability that is stated,
+// which goes by the types of the arguments and not by their nulls.
 ghost use Rattle.std.specs.Prelude.{◌≡◌, ◌<◌, ℕ, true, Option, None, is_some, IfOk, IfErr};
 ghost use Rattle.colbase.specs.Arrays.{dtype, len, row};
-ghost use Rattle.colbase.specs.LogicalType.{nullability_of};
-ghost use Rattle.colbase.specs.LogicalTypeOf.{logical_type};
-ghost use Rattle.colbase.specs.Valid.{Covers, valid_at, validity_nullability};
+ghost use Rattle.coltypes.specs.LogicalType.{nullability_of};
+ghost use Rattle.coltypes.specs.LogicalTypeOf.{logical_type};
+ghost use Rattle.coltypes.specs.Valid.{Covers, valid_at, validity_nullability};
 ghost use Rattle.rowplan.specs.Outputs.{made_nullable};
 ghost use Rattle.rowexec.specs.Masks.{null_unless};
 

@@ -1,6 +1,6 @@
-// The rows at which no argument is null.
+// The rows at which no argument is null. No row beside them can be answered with a value.
 ghost use Rattle.std.specs.Prelude.{◌≡◌, ◌<◌, ℕ, true, None, is_some, IfOk, IfErr};
-ghost use Rattle.colbase.specs.Valid.{Covers, valid_at, validity_nullability};
+ghost use Rattle.coltypes.specs.Valid.{Covers, valid_at, validity_nullability};
 ghost use Rattle.rowplan.specs.Outputs.{any_nullable};
 ghost use Rattle.rowexec.specs.Rows.{EachHasRows, full_cells, some_all_null, types_of};
 

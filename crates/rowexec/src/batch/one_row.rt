@@ -1,7 +1,7 @@
-// One row that stands for all rows of a batch.
+// One row that stands for all rows of a batch of constants, so that such a batch takes one call whatever its length.
 ghost use Rattle.std.specs.Prelude.{◌≡◌, ◌<◌, ◌⊎◌, ℕ, length, true, IfOk, IfErr};
 ghost use Rattle.colbase.specs.Arrays.{dtype, len, row};
-ghost use Rattle.colbase.specs.declared.fault.Fault.TheVariants.{Memory};
+ghost use Rattle.coltypes.specs.declared.fault.Fault.TheVariants.{Memory};
 ghost use Rattle.rowtypes.specs.Rows.{DecodeFails, logical_types};
 ghost use Rattle.rowexec.specs.Batch.{Planned};
 ghost use Rattle.rowexec.specs.Counts.{each_one_value, is_one_value, one_row};

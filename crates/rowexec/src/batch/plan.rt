@@ -1,6 +1,6 @@
-// What is settled of a call before any cell is looked at.
+// What is settled of a call before any cell is looked at: the faults of the first five kinds, and the plan.
 ghost use Rattle.std.specs.Prelude.{◌≡◌, ◌≢◌, ◌⊎◌, length, Err, IfOk, IfErr};
-ghost use Rattle.colbase.specs.declared.fault.Fault.TheVariants.{Arity, Memory};
+ghost use Rattle.coltypes.specs.declared.fault.Fault.TheVariants.{Arity, Memory};
 ghost use Rattle.rowtypes.specs.Rows.{logical_types};
 ghost use Rattle.rowplan.specs.Plans.{PlanOf};
 ghost use Rattle.rowexec.specs.Batch.{Cause, Fits, Planned, Unplanned};

@@ -1,7 +1,8 @@
-// Execution of all rows, and of the rows without a null argument where its evidence is rejected.
+// Execution of all rows, and of the rows without a null argument where its evidence is rejected: the evidence of the first run may
+// come from a value under a null, so it only tells that the second is needed.
 ghost use Rattle.std.specs.Prelude.{◌≡◌, ◌<◌, ◌≤◌, ◌⊎◌, ℕ, length, true, None, Some, is_some, IfOk, MatchOption, MatchResult};
-ghost use Rattle.colbase.specs.Keep.{trues};
-ghost use Rattle.colbase.specs.Valid.{Covers, valid_at};
+ghost use Rattle.coltypes.specs.Keep.{trues};
+ghost use Rattle.coltypes.specs.Valid.{Covers, valid_at};
 ghost use Rattle.rowtypes.specs.Rows.{DecodeFails, decoded_lengths, each_length, logical_types};
 ghost use Rattle.rowplan.specs.declared.batch_plan.RowPolicy.TheVariants.{DenseWithRetry as dense_with_retry};
 ghost use Rattle.rowexec.specs.Batch.{Planned};
@@ -13,9 +14,9 @@ ghost use Rattle.rowexec.specs.Visits.{Attempted, RanRows, ShowsFull, ValidColum
 
 use super::selection::{Selection, select_valid};
 use super::valid::execute_valid;
-use crate::execute::DenseAttempt;
 use crate::visitor::{ExecuteDenseWithRetry, Visited};
 use colbase::{ArrayRef, DType, ExecutionCtx, Fault, RowError, Validity};
+use rowloops::DenseAttempt;
 use rowplan::RowFn;
 
 /// The values of all rows on what the columns show. Where their evidence is rejected, the rows without a null argument decide:

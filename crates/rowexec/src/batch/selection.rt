@@ -1,8 +1,9 @@
-// Which rows of a batch run.
+// Which rows of a batch run, by its policy, its constants and its nulls. The choice is a value, so that its contract stands apart from
+// those of the runs.
 ghost use Rattle.std.specs.Prelude.{◌≡◌, ◌<◌, ℕ, false, is_some, length, true};
 ghost use Rattle.bitlane.specs.Bits.{bit};
-ghost use Rattle.colbase.specs.declared.validity.Validity.TheVariants.{Array};
-ghost use Rattle.colbase.specs.Valid.{Covers, valid_at};
+ghost use Rattle.coltypes.specs.declared.validity.Validity.TheVariants.{Array};
+ghost use Rattle.coltypes.specs.Valid.{Covers, valid_at};
 ghost use Rattle.rowexec.specs.Rows.{EachHasRows, full_cells};
 ghost use Rattle.rowexec.specs.Selections.{Selected, SelectedValid};
 

@@ -1,8 +1,9 @@
-// Execution of the rows at which no argument is null.
+// Execution of the rows at which no argument is null: on the columns as they are where each can be decoded with its nulls, and else
+// on columns that are filtered to these rows.
 ghost use Rattle.std.specs.Prelude.{◌≡◌, ◌<◌, ◌⊎◌, ℕ, length, is_some, IfOk, IfErr};
 ghost use Rattle.bitlane.specs.Bits.{bit};
-ghost use Rattle.colbase.specs.Keep.{trues};
-ghost use Rattle.colbase.specs.declared.fault.Fault.TheVariants.{Memory};
+ghost use Rattle.coltypes.specs.Keep.{trues};
+ghost use Rattle.coltypes.specs.declared.fault.Fault.TheVariants.{Memory};
 ghost use Rattle.rowtypes.specs.Rows.{DecodeFails, logical_types};
 ghost use Rattle.rowexec.specs.Batch.{Planned};
 ghost use Rattle.rowexec.specs.Evidence.{EvidenceFails, joined};

@@ -1,10 +1,12 @@
+// The visitor of the first run under `DenseWithRetry`: all rows, values under nulls included. Rejected evidence is no fault yet,
+// since it may come from a row that has a null.
 ghost use Rattle.std.specs.Prelude.{◌≡◌};
 ghost use Rattle.rowtypes.specs.Rows.{ReadsKnown};
 
 use super::execute::{ExecuteRows, known_values};
-use crate::execute::{DenseAttempt, execute_owned};
 use crate::visitor::Visited;
 use colbase::{ArrayRef, DType, ExecutionCtx, Fault, Res, RowError};
+use rowloops::{DenseAttempt, execute_owned};
 use rowplan::{RowSpec, RowVisitor};
 use rowtypes::{IndexedElementTuple, OutputElement};
 use std::alloc::AllocError;
@@ -23,8 +25,8 @@ pub(crate) struct ExecuteDenseWithRetry<'a, F: RowSpec> {
 
 impl<'a, F: RowSpec> RowVisitor<F> for ExecuteDenseWithRetry<'a, F> {
     ghost use Rattle.std.specs.Prelude.{◌≡◌, MatchResult, option_map};
-    ghost use Rattle.colbase.specs.LogicalTypeOf.{logical_type};
-    ghost use Rattle.colbase.specs.declared.fault.Fault.TheVariants.{Memory};
+    ghost use Rattle.coltypes.specs.LogicalTypeOf.{logical_type};
+    ghost use Rattle.coltypes.specs.declared.fault.Fault.TheVariants.{Memory};
     ghost use Rattle.rowtypes.specs.Rows.{DecodeFails, logical_types};
     ghost use Rattle.rowexec.specs.Visits.{Attempted, IsReadyAttempt, RanRows};
 

@@ -1,11 +1,13 @@
+// The visitor of the runs whose every row counts: by the policy `Dense`, over columns without a null, or of the one row that stands
+// for a batch of constants. What is stored is read without a test for nulls.
 ghost use Rattle.std.specs.Prelude.{◌≡◌};
 ghost use Rattle.rowtypes.specs.Rows.{ReadsKnown};
 
-use crate::execute::{
-    accepted_values, execute_owned, execute_owned_infallible, execute_owned_infallible_bool,
-};
 use crate::visitor::Visited;
 use colbase::{ArrayRef, DType, ExecutionCtx, Fault, Res, RowError};
+use rowloops::{
+    accepted_values, execute_owned, execute_owned_infallible, execute_owned_infallible_bool,
+};
 use rowplan::{RowSpec, RowVisitor};
 use rowtypes::{ElementTuple, IndexedElementTuple, OutputElement};
 use std::alloc::AllocError;
@@ -23,8 +25,8 @@ pub(crate) struct ExecuteRows<'a, F: RowSpec> {
 
 impl<'a, F: RowSpec> RowVisitor<F> for ExecuteRows<'a, F> {
     ghost use Rattle.std.specs.Prelude.{◌≡◌, MatchResult, option_map, ◌⊎◌};
-    ghost use Rattle.colbase.specs.LogicalTypeOf.{logical_type};
-    ghost use Rattle.colbase.specs.declared.fault.Fault.TheVariants.{Memory};
+    ghost use Rattle.coltypes.specs.LogicalTypeOf.{logical_type};
+    ghost use Rattle.coltypes.specs.declared.fault.Fault.TheVariants.{Memory};
     ghost use Rattle.rowtypes.specs.Rows.{DecodeFails, logical_types};
     ghost use Rattle.rowexec.specs.Evidence.{EvidenceFails, joined};
     ghost use Rattle.rowexec.specs.Rows.{full_cells};

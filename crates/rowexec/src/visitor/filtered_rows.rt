@@ -1,11 +1,13 @@
+// The visitor of the rows without a null where an element can't be decoded with its nulls: the columns were filtered to them, and
+// each answer is written at the row that it came from.
 ghost use Rattle.std.specs.Prelude.{◌≡◌};
 ghost use Rattle.rowtypes.specs.Rows.{ReadsKnown};
 
 use super::execute::known_values;
-use crate::execute::{accepted_values, execute_owned_filtered, execute_owned_infallible_filtered};
 use crate::visitor::Visited;
 use bitlane::BitBuffer;
 use colbase::{ArrayRef, DType, ExecutionCtx, Fault, Res, RowError};
+use rowloops::{accepted_values, execute_owned_filtered, execute_owned_infallible_filtered};
 use rowplan::{RowSpec, RowVisitor};
 use rowtypes::{IndexedElementTuple, OutputElement};
 use std::alloc::AllocError;
@@ -26,9 +28,9 @@ pub(crate) struct ExecuteFilteredRows<'a, F: RowSpec> {
 
 impl<'a, F: RowSpec> RowVisitor<F> for ExecuteFilteredRows<'a, F> {
     ghost use Rattle.std.specs.Prelude.{◌≡◌, MatchResult, option_map, ◌⊎◌};
-    ghost use Rattle.colbase.specs.Keep.{trues};
-    ghost use Rattle.colbase.specs.LogicalTypeOf.{logical_type};
-    ghost use Rattle.colbase.specs.declared.fault.Fault.TheVariants.{Memory};
+    ghost use Rattle.coltypes.specs.Keep.{trues};
+    ghost use Rattle.coltypes.specs.LogicalTypeOf.{logical_type};
+    ghost use Rattle.coltypes.specs.declared.fault.Fault.TheVariants.{Memory};
     ghost use Rattle.rowtypes.specs.Rows.{DecodeFails, logical_types};
     ghost use Rattle.rowexec.specs.Evidence.{EvidenceFails, joined};
     ghost use Rattle.rowexec.specs.Rows.{full_cells};

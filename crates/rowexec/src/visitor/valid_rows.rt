@@ -1,13 +1,13 @@
+// The visitor of the rows without a null over the columns as they are, which spares their copies. It declines, before it calls
+// anything, where some element can't be decoded with its nulls.
 ghost use Rattle.std.specs.Prelude.{◌≡◌};
 ghost use Rattle.rowtypes.specs.Rows.{ReadsKnown};
 
 use super::execute::known_values;
-use crate::execute::{
-    accepted_values, execute_owned_infallible_valid_rows, execute_owned_valid_rows,
-};
 use crate::visitor::Visited;
 use bitlane::BitBuffer;
 use colbase::{ArrayRef, DType, ExecutionCtx, Fault, Res, RowError};
+use rowloops::{accepted_values, execute_owned_infallible_valid_rows, execute_owned_valid_rows};
 use rowplan::{RowSpec, RowVisitor};
 use rowtypes::{IndexedElementTuple, OutputElement};
 use std::alloc::AllocError;
@@ -27,9 +27,9 @@ pub(crate) struct ExecuteValidRows<'a, F: RowSpec> {
 
 impl<'a, F: RowSpec> RowVisitor<F> for ExecuteValidRows<'a, F> {
     ghost use Rattle.std.specs.Prelude.{◌≡◌, length, MatchResult, option_map, ◌⊎◌};
-    ghost use Rattle.colbase.specs.Keep.{trues};
-    ghost use Rattle.colbase.specs.LogicalTypeOf.{logical_type};
-    ghost use Rattle.colbase.specs.declared.fault.Fault.TheVariants.{Memory};
+    ghost use Rattle.coltypes.specs.Keep.{trues};
+    ghost use Rattle.coltypes.specs.LogicalTypeOf.{logical_type};
+    ghost use Rattle.coltypes.specs.declared.fault.Fault.TheVariants.{Memory};
     ghost use Rattle.rowtypes.specs.Rows.{DecodeFails, logical_types};
     ghost use Rattle.rowexec.specs.Evidence.{EvidenceFails, joined};
     ghost use Rattle.rowexec.specs.Rows.{full_cells};

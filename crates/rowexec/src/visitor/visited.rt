@@ -1,8 +1,10 @@
+// What the executing visitors answer. A fault of the execution stands within, beside the counts; the visit itself fails only by want
+// of memory, as a dispatch does.
 ghost use Rattle.std.specs.Prelude.{◌≡◌, ◌<◌, ◌+◌, ◌^◌, Err, MatchResult, Ok, Some};
-ghost use Rattle.rowexec.specs.declared.execute.retry.DenseAttempt.TheVariants.{Values};
+ghost use Rattle.rowloops.specs.declared.retry.DenseAttempt.TheVariants.{Values};
 
-use crate::execute::DenseAttempt;
 use colbase::{ArrayRef, Res};
+use rowloops::DenseAttempt;
 
 /// What a visit answered, and how often it called.
 #[derive(Drop)]

@@ -1,7 +1,9 @@
+// The calls of a plan. Its two ghost facts, a storage type that is not nullable and a label over exactly it, are what lets it answer
+// types without a fault.
 ghost use Rattle.std.specs.Prelude.{◌≡◌, Option, IfOk, IfErr, option_map};
 ghost use Rattle.colbase.specs.Arrays.{dtype, payload, rows};
-ghost use Rattle.colbase.specs.LogicalType.{nullability_of, with_nullability};
-ghost use Rattle.colbase.specs.LogicalTypeOf.{logical_type};
+ghost use Rattle.coltypes.specs.LogicalType.{nullability_of, with_nullability};
+ghost use Rattle.coltypes.specs.LogicalTypeOf.{logical_type};
 ghost use Rattle.rowtypes.specs.Rows.{logical_types};
 ghost use Rattle.rowplan.specs.Outputs.{stated_type};
 ghost use Rattle.rowplan.specs.Plans.{Plans, Reproduces, plan_of};

@@ -1,6 +1,7 @@
+// The two tests that a plan makes of types: whether a declared type labels the storage, and whether an argument is nullable.
 ghost use Rattle.std.specs.Prelude.{◌≡◌, true, IfOk, IfErr, option_map};
-ghost use Rattle.colbase.specs.Equal.{same_type};
-ghost use Rattle.colbase.specs.LogicalTypeOf.{logical_type};
+ghost use Rattle.coltypes.specs.Equal.{same_type};
+ghost use Rattle.coltypes.specs.LogicalTypeOf.{logical_type};
 ghost use Rattle.rowtypes.specs.Rows.{logical_types};
 ghost use Rattle.rowplan.specs.Labels.{label_storage, shown_as};
 ghost use Rattle.rowplan.specs.Outputs.{LabelFits, any_nullable, output_type};

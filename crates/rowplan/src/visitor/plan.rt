@@ -1,3 +1,4 @@
+// The visitor that plans: it looks at the types of the visit that a function selects, and runs nothing.
 ghost use Rattle.std.specs.Prelude.{◌≡◌, None};
 ghost use Rattle.rowplan.specs.Policies.{deferred_policy, owned_policy};
 
@@ -37,9 +38,9 @@ impl<'a, F: RowSpec> BatchPlanner<'a, F> {
 
 impl<'a, F: RowSpec> RowVisitor<F> for BatchPlanner<'a, F> {
     ghost use Rattle.std.specs.Prelude.{⊤, option_map};
-    ghost use Rattle.colbase.specs.LogicalTypeOf.{logical_type};
+    ghost use Rattle.coltypes.specs.LogicalTypeOf.{logical_type};
     ghost use Rattle.rowtypes.specs.Rows.{first_refused, logical_types};
-    ghost use Rattle.rowplan.specs.Plans.{Planned};
+    ghost use Rattle.rowplan.specs.Plans.{PlanAnswer};
 
     type VisitResult = BatchPlan;
 
@@ -51,7 +52,7 @@ impl<'a, F: RowSpec> RowVisitor<F> for BatchPlanner<'a, F> {
 
     ghost ready = { λ s. ⊤ };
 
-    ghost gives = { λ s r. Planned r (first_refused (F.fits s.options.now (logical_types s.types.now)) 0 (logical_types s.types.now)) (F.output s.options.now (logical_types s.types.now)).storage (F.output s.options.now (logical_types s.types.now)).label (F.policy s.options.now (logical_types s.types.now)) };
+    ghost gives = { λ s r. PlanAnswer r (first_refused (F.fits s.options.now (logical_types s.types.now)) 0 (logical_types s.types.now)) (F.output s.options.now (logical_types s.types.now)).storage (F.output s.options.now (logical_types s.types.now)).label (F.policy s.options.now (logical_types s.types.now)) };
 
     fn with_output_dtype(self, dtype: DType) -> BatchPlanner<'a, F> {
         BatchPlanner {

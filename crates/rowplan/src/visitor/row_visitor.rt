@@ -1,3 +1,5 @@
+// The visits that a row function may select. A visitor defines the two prepared ones; each other is one of these with nothing
+// prepared or with truth values as the output, unless a visitor has a loop of its own for it.
 ghost use Rattle.std.specs.Prelude.{◌≡◌, false, true, Some, Option, List, Result};
 ghost use Rattle.std.specs.Prelude.{Ok};
 ghost use Rattle.std.specs.Borrow.{Bor};
@@ -16,15 +18,15 @@ use std::alloc::AllocError;
 /// are those of the function's meanings, and that the callback agrees with the meaning of a row wherever the elements read
 /// its cells. A visit tests the argument types before the output, and the storage type before the label.
 pub trait RowVisitor<F: RowSpec>: Sized + Drop {
-    ghost use Rattle.colbase.specs.LogicalType.{LogicalType};
+    ghost use Rattle.coltypes.specs.LogicalType.{LogicalType};
     ghost use Rattle.std.specs.Prelude.{Bool};
-    ghost use Rattle.colbase.specs.Cell.{truth};
-    ghost use Rattle.colbase.specs.LogicalType.{bool as bool_type};
-    ghost use Rattle.colbase.specs.declared.dtype.Nullability.TheVariants.{NonNullable as not_nullable};
-    ghost use Rattle.colbase.specs.LogicalTypeOf.{logical_type};
-    ghost use Rattle.colbase.specs.declared.fault.Fault.{Fault};
+    ghost use Rattle.coltypes.specs.Cell.{truth};
+    ghost use Rattle.coltypes.specs.LogicalType.{bool as bool_type};
+    ghost use Rattle.coltypes.specs.declared.dtype.Nullability.TheVariants.{NonNullable as not_nullable};
+    ghost use Rattle.coltypes.specs.LogicalTypeOf.{logical_type};
+    ghost use Rattle.coltypes.specs.declared.fault.Fault.{Fault};
     ghost use Rattle.std.specs.Prelude.{⊤};
-    ghost use Rattle.colbase.specs.declared.fault.RowError.{RowError};
+    ghost use Rattle.coltypes.specs.declared.fault.RowError.{RowError};
     ghost use Rattle.rowtypes.specs.Rows.{AgreesWith, ReadsFrom, ReadsKnown};
     ghost use Rattle.rowplan.specs.Outcomes.{done, judged};
     ghost use Rattle.rowplan.specs.Policies.{deferred_policy, owned_policy};

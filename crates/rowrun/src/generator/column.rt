@@ -1,7 +1,7 @@
-// The columns that are generated.
+// The columns that are generated, each by a pattern whose remainders are counted on, without a division a row.
 ghost use Rattle.std.specs.Prelude.{◌≡◌, ◌<◌, ◌≤◌, ◌+◌, ◌%◌, ◌^◌, [], ◌∷◌, pos, if◌then◌else◌, IfOk, IfErr};
 ghost use Rattle.bitlane.specs.Bits.{tabulate};
-ghost use Rattle.colbase.specs.declared.fault.Fault.TheVariants.{Memory};
+ghost use Rattle.coltypes.specs.declared.fault.Fault.TheVariants.{Memory};
 ghost use Rattle.rowrun.specs.Generator.{generated, generated_column, is_valid_in, left, right, stored_in};
 
 use bitlane::BitBuffer;

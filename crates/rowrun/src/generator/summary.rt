@@ -1,7 +1,7 @@
-// The summary of a column: its rows, its null rows, and the sum of the others.
+// The summary of a column: its rows, its null rows, and the sum of the others, which stays in range since each is small.
 ghost use Rattle.std.specs.Prelude.{◌≡◌, ◌≤◌, ◌<◌, ◌+◌, ◌++◌, ◌+ℤ◌, ℕ, pos, true, length, if◌then◌else◌, FitsSigned, IfOk, IfSome, OnOk};
 ghost use Rattle.std.specs.Int.{w64};
-ghost use Rattle.colbase.specs.Masks.{mask_bits};
+ghost use Rattle.coltypes.specs.Masks.{mask_bits};
 ghost use Rattle.rowrun.specs.Generator.{IsSmall, marked_at, most_rows, nulls_of, summary_line, summary_text, total_of};
 
 use colbase::Mask;

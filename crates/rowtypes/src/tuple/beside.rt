@@ -2,11 +2,9 @@
 // column, and its source is put beside those before it.
 ghost use Rattle.std.specs.Prelude.{◌≡◌, ◌<◌, ℕ, true};
 
-use crate::arg_column::ArgColumn;
-use crate::element::InputElement;
-use crate::source_visitor::SourceVisitor;
-use crate::sources::SideBySide;
+use crate::two_sources::SideBySide;
 use bitlane::IndexedSource;
+use rowelems::{ArgColumn, InputElement, SourceVisitor};
 
 /// Puts the source of the next argument beside a source, and runs a loop over both.
 #[derive(Drop)]
@@ -33,8 +31,7 @@ impl<'a, T: InputElement, V> Beside<'a, T, V> {
 impl<'a, X: Drop, T: InputElement, V: SourceVisitor<(X, T::Elem)>> SourceVisitor<X>
     for Beside<'a, T, V> {
     ghost use Rattle.std.specs.Prelude.{◌≡◌, true};
-    ghost use Rattle.rowtypes.specs.Arguments.{arg_length, arg_shows};
-    ghost use Rattle.rowtypes.specs.Rows.{is_length};
+    ghost use Rattle.rowelems.specs.Argument.{arg_length, arg_shows, is_length};
 
     type Output = V::Output;
 

@@ -1,10 +1,9 @@
 // Visitors of rows as visitors of items side by side: a pair, and a pair of a pair and a third, become tuples.
 ghost use Rattle.std.specs.Prelude.{◌≡◌};
 
-use crate::element::InputElement;
 use crate::rows_visitor::RowsVisitor;
-use crate::source_visitor::SourceVisitor;
 use bitlane::IndexedSource;
+use rowelems::{InputElement, SourceVisitor};
 use std::marker::PhantomData;
 
 /// Rows of one argument.

@@ -1,13 +1,14 @@
+// Tuples of four arguments.
 ghost use Rattle.std.specs.Prelude.{◌≡◌, ℕ, Bool, true, ◌&&◌, List, [], ◌∷◌, length, ◌<◌, ⊤, ◌⊎◌, Option, None, Some, IfOk, IfErr, IfSome, is_some};
 
 use super::{ElementTuple, accepts_type};
-use crate::arg_column::ArgColumn;
-use crate::element::InputElement;
 use colbase::{ArrayRef, DType, ExecutionCtx, Fault, Res};
+use rowelems::{ArgColumn, InputElement};
 
 impl<A: InputElement, B: InputElement, C: InputElement, D: InputElement> ElementTuple
     for (A, B, C, D) {
-    ghost use Rattle.rowtypes.specs.Arguments.{arg_length, arg_shows, arg_value, known_cell, pick_four, reads_four, four_agree, pick_four_constant, pick_four_row};
+    ghost use Rattle.rowelems.specs.Argument.{arg_length, arg_shows, arg_value, known_cell};
+    ghost use Rattle.rowtypes.specs.Arguments.{pick_four, reads_four, four_agree, pick_four_constant, pick_four_row};
 
     type Columns = (ArgColumn<A>, ArgColumn<B>, ArgColumn<C>, ArgColumn<D>);
 

@@ -1,11 +1,11 @@
+// Loops over the rows of tuples: each argument picks the type of its source before the loop.
 ghost use Rattle.std.specs.Prelude.{◌≡◌, ◌<◌, ℕ, true};
 
 use super::ElementTuple;
 use super::beside::Beside;
 use super::flat::{Alone, Four, NoArguments, Three, Two};
-use crate::arg_column::ArgColumn;
-use crate::element::InputElement;
 use crate::rows_visitor::RowsVisitor;
+use rowelems::{ArgColumn, InputElement};
 
 /// Tuples whose rows are read by their index.
 pub trait IndexedElementTuple: ElementTuple {

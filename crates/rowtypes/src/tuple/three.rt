@@ -1,12 +1,13 @@
+// Tuples of three arguments.
 ghost use Rattle.std.specs.Prelude.{◌≡◌, ℕ, Bool, true, ◌&&◌, List, [], ◌∷◌, length, ◌<◌, ⊤, ◌⊎◌, Option, None, Some, IfOk, IfErr, IfSome, is_some};
 
 use super::{ElementTuple, accepts_type};
-use crate::arg_column::ArgColumn;
-use crate::element::InputElement;
 use colbase::{ArrayRef, DType, ExecutionCtx, Fault, Res};
+use rowelems::{ArgColumn, InputElement};
 
 impl<A: InputElement, B: InputElement, C: InputElement> ElementTuple for (A, B, C) {
-    ghost use Rattle.rowtypes.specs.Arguments.{arg_length, arg_shows, arg_value, known_cell, pick_three, reads_three, three_agree, pick_three_constant, pick_three_row};
+    ghost use Rattle.rowelems.specs.Argument.{arg_length, arg_shows, arg_value, known_cell};
+    ghost use Rattle.rowtypes.specs.Arguments.{pick_three, reads_three, three_agree, pick_three_constant, pick_three_row};
 
     type Columns = (ArgColumn<A>, ArgColumn<B>, ArgColumn<C>);
 

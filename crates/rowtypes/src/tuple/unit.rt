@@ -1,3 +1,4 @@
+// The tuple of no arguments: each batch has its rows, and each shows nothing.
 ghost use Rattle.std.specs.Prelude.{◌≡◌, ℕ, true, List, [], ⊤};
 
 use super::ElementTuple;

@@ -1,12 +1,13 @@
+// Tuples of one and of two arguments.
 ghost use Rattle.std.specs.Prelude.{◌≡◌, ℕ, Bool, true, ◌&&◌, List, [], ◌∷◌, length, ◌<◌, ⊤, ◌⊎◌, Option, None, Some, IfOk, IfErr, IfSome, is_some};
 
 use super::{ElementTuple, accepts_type};
-use crate::arg_column::ArgColumn;
-use crate::element::InputElement;
 use colbase::{ArrayRef, DType, ExecutionCtx, Fault, Res};
+use rowelems::{ArgColumn, InputElement};
 
 impl<A: InputElement> ElementTuple for (A,) {
-    ghost use Rattle.rowtypes.specs.Arguments.{arg_length, arg_shows, arg_value, known_cell, pick_one, reads_one, one_agree, pick_one_constant, pick_one_row};
+    ghost use Rattle.rowelems.specs.Argument.{arg_length, arg_shows, arg_value, known_cell};
+    ghost use Rattle.rowtypes.specs.Arguments.{pick_one, reads_one, one_agree, pick_one_constant, pick_one_row};
 
     type Columns = (ArgColumn<A>,);
 
@@ -91,7 +92,8 @@ impl<A: InputElement> ElementTuple for (A,) {
 }
 
 impl<A: InputElement, B: InputElement> ElementTuple for (A, B) {
-    ghost use Rattle.rowtypes.specs.Arguments.{arg_length, arg_shows, arg_value, known_cell, pick_two, reads_two, two_agree, pick_two_constant, pick_two_row};
+    ghost use Rattle.rowelems.specs.Argument.{arg_length, arg_shows, arg_value, known_cell};
+    ghost use Rattle.rowtypes.specs.Arguments.{pick_two, reads_two, two_agree, pick_two_constant, pick_two_row};
 
     type Columns = (ArgColumn<A>, ArgColumn<B>);
 

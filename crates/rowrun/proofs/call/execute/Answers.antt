@@ -1,7 +1,7 @@
 use Rattle.std.proofs.Common.{true}
 use Rattle.std.specs.Int.{is_positive}
 use Rattle.rowexec.specs.Rows.{types_of}
-use Rattle.rowrun.specs.Functions.{accepts_i64, accepts_rescale, accepts_timestamp, checked_sums, i64_output, never_refused, refused_where, rescaled, truncated, truncated_output, wrapping_sums}
+use Rattle.rowsample.specs.Functions.{accepts_i64, accepts_rescale, accepts_timestamp, checked_sums, i64_output, never_refused, refused_where, rescaled, truncated, truncated_output, wrapping_sums}
 use Rattle.rowrun.specs.declared.batch.Call.TheVariants.{WrappingAdd, CheckedAdd, Rescale, Truncate}
 use Rattle.rowrun.proofs.Lifted.{of_call, result_column}
 use Rattle.rowrun.proofs.Printed.{truncations_printed}

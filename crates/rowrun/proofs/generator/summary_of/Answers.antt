@@ -2,9 +2,9 @@ use Rattle.std.proofs.Common.{◌≡◌, ◌∙◌, ℕ, ◌<◌, List, length, 
 use Rattle.std.specs.Prelude.{is_some}
 use Rattle.bitlane.specs.Bits.{bit}
 use Rattle.colbase.specs.Arrays.{len, row}
-use Rattle.colbase.specs.Masks.{mask_bits}
+use Rattle.coltypes.specs.Masks.{mask_bits}
 use Rattle.rowrun.specs.Generator.{marked_at}
-use Rattle.rowrun.specs.Shows.{Shows}
+use Rattle.rowjson.specs.Shows.{Shows}
 use Rattle.rowrun.proofs.GeneratedSums.{marked_sums, small_marked, summary_is}
 use Rattle.rowrun.proofs.generator.summary_of.Goals as goal
 

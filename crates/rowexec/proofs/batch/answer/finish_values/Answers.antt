@@ -1,14 +1,14 @@
 use Rattle.std.proofs.Common.{◌≡◌, ◌∙◌, ◌<◌, ℕ, Option, Some, ap, sym, subst}
 use Rattle.colbase.specs.Arrays.{dtype, len, row, rows}
-use Rattle.colbase.specs.LogicalType.{LogicalType, nullability_of, with_nullability}
-use Rattle.colbase.specs.LogicalTypeOf.{logical_type}
-use Rattle.colbase.specs.Valid.{valid_at}
-use Rattle.colbase.specs.declared.dtype.Nullability.TheVariants.{NonNullable}
+use Rattle.coltypes.specs.LogicalType.{LogicalType, nullability_of, with_nullability}
+use Rattle.coltypes.specs.LogicalTypeOf.{logical_type}
+use Rattle.coltypes.specs.Valid.{valid_at}
+use Rattle.coltypes.specs.declared.dtype.Nullability.TheVariants.{NonNullable}
 use Rattle.rowplan.specs.Outputs.{InOrder, any_nullable, made_nullable}
 use Rattle.rowplan.specs.Plans.{plan_of}
 use Rattle.rowexec.specs.Batch.{StatedAs}
 use Rattle.rowexec.specs.Rows.{StrictRow, full_cells, types_of}
-use Rattle.rowexec.proofs.Results.{ok_then}
+use Rattle.rowloops.proofs.Results.{ok_then}
 use Rattle.rowexec.proofs.StrictRows.{output_not_null, relabel_type, relabelled_type, strict_row}
 use Rattle.rowexec.proofs.Tables.{len_of_table, row_of_table}
 use Rattle.rowexec.proofs.batch.answer.finish_values.Goals as goal

@@ -1,6 +1,6 @@
 use Rattle.std.proofs.Common.{◌∙◌, ap}
 use Rattle.rowtypes.specs.Rows.{logical_types}
-use Rattle.colbase.specs.LogicalType.{nullability_of}
+use Rattle.coltypes.specs.LogicalType.{nullability_of}
 use Rattle.rowplan.specs.Plans.{plan_of}
 use Rattle.rowexec.proofs.StrictRows.{stated_nullable}
 use Rattle.rowexec.proofs.batch.answer.null_answer.Goals as goal

@@ -1,6 +1,6 @@
 use Rattle.std.proofs.Common.{◌<◌, ◌+◌, ◌++◌, ◌∷◌, drop, length, ap, arith, sym, ◌∙◌}
 use Rattle.std.proofs.lemmas.List.{at_drop_more}
-use Rattle.colbase.specs.LogicalTypeOf.{logical_type}
+use Rattle.coltypes.specs.LogicalTypeOf.{logical_type}
 use Rattle.rowtypes.specs.Rows.{logical_types}
 use Rattle.rowexec.specs.Rows.{types_of}
 use Rattle.rowexec.proofs.Batches.{type_pushed}

@@ -1,7 +1,8 @@
 use Rattle.std.proofs.Common.{◌∙◌, length, ap, sym}
 use Rattle.rowexec.proofs.Batches.{as_many_types}
 use Rattle.rowexec.proofs.Selected.{runs_alike}
-use Rattle.rowexec.proofs.StrictRows.{accepted_from, as_many}
+use Rattle.rowexec.proofs.StrictRows.{accepted_from}
+use Rattle.rowplan.proofs.Types.{as_many}
 use Rattle.rowtypes.specs.Rows.{logical_types}
 use Rattle.rowexec.proofs.batch.dense.execute_dense.Goals as goal
 

@@ -2,10 +2,10 @@ use Rattle.std.proofs.Common.{◌≡◌, ◌∙◌, ◌<◌, ℕ, ap, sym, rules
 use Rattle.bitlane.specs.Bits.{tabulate}
 use Rattle.colbase.specs.Arrays.{len, row, rows}
 use Rattle.colbase.specs.Hides.{shown_row}
-use Rattle.colbase.specs.Valid.{valid_at}
+use Rattle.coltypes.specs.Valid.{valid_at}
 use Rattle.rowexec.specs.Masks.{null_unless}
 use Rattle.rowexec.proofs.Masking.{nullable_made}
-use Rattle.rowexec.proofs.Results.{ok_then}
+use Rattle.rowloops.proofs.Results.{ok_then}
 use Rattle.rowexec.proofs.Tables.{len_of_table, row_of_table}
 use Rattle.rowexec.proofs.batch.finish.mask_rows.Goals as goal
 

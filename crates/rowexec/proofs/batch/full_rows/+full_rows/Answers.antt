@@ -1,10 +1,10 @@
 use Rattle.std.proofs.Common.{◌≡◌, ◌∙◌, ◌∷◌, ◌<◌, ℕ, ap, sym, subst, rules}
 use Rattle.std.specs.Prelude.{is_some}
-use Rattle.colbase.specs.Valid.{Covers, valid_at, validity_and}
-use Rattle.colbase.specs.declared.validity.Validity.{Validity}
+use Rattle.coltypes.specs.Valid.{Covers, valid_at, validity_and}
+use Rattle.coltypes.specs.declared.validity.Validity.{Validity}
 use Rattle.rowexec.specs.Rows.{full_cells}
 use Rattle.rowexec.proofs.Masking.{covers_and, full_both, rows_of_others, valid_and}
-use Rattle.rowexec.proofs.Results.{ok_then}
+use Rattle.rowloops.proofs.Results.{ok_then}
 use Rattle.rowexec.proofs.batch.full_rows.+full_rows.Goals as goal
 
 pub full_rows-requires : goal.full_rows-requires

@@ -1,6 +1,6 @@
 use Rattle.std.proofs.Common.{inl, inr, refl, ◌⊎◌}
 use Rattle.colbase.specs.Arrays.{Array}
-use Rattle.colbase.specs.declared.fault.Fault.{Fault}
+use Rattle.coltypes.specs.declared.fault.Fault.{Fault}
 use Rattle.rowtypes.specs.Rows.{DecodeFails}
 use Rattle.rowexec.specs.Evidence.{EvidenceFails, joined}
 use Rattle.rowexec.specs.Rows.{full_cells, types_of}

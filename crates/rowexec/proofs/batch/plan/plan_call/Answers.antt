@@ -1,6 +1,6 @@
 use Rattle.std.proofs.Common.{◌∙◌, length, ap, sym}
 use Rattle.rowexec.proofs.Batches.{as_many_types}
-use Rattle.rowexec.proofs.StrictRows.{as_many}
+use Rattle.rowplan.proofs.Types.{as_many}
 use Rattle.rowexec.proofs.batch.plan.plan_call.Goals as goal
 
 pub plan_batch-requires : goal.plan_batch-requires

@@ -2,7 +2,8 @@ use Rattle.std.proofs.Common.{◌∙◌, length, ap, sym}
 use Rattle.rowtypes.specs.Rows.{logical_types}
 use Rattle.rowexec.specs.Counts.{runs_valid_only}
 use Rattle.rowexec.proofs.Batches.{as_many_types, each_decoded}
-use Rattle.rowexec.proofs.StrictRows.{accepted_from, as_many}
+use Rattle.rowexec.proofs.StrictRows.{accepted_from}
+use Rattle.rowplan.proofs.Types.{as_many}
 use Rattle.rowexec.proofs.batch.retry.execute_attempt.Goals as goal
 
 pub dispatch-requires-clause-arity : goal.dispatch-requires-clause-arity

@@ -1,14 +1,14 @@
 use Rattle.std.proofs.Common.{◌≤◌, arith, inl, sym}
 use Rattle.std.specs.Prelude.{is_some}
-use Rattle.colbase.specs.Keep.{trues}
-use Rattle.colbase.specs.declared.fault.Fault.{Fault}
+use Rattle.coltypes.specs.Keep.{trues}
+use Rattle.coltypes.specs.declared.fault.Fault.{Fault}
 use Rattle.rowtypes.specs.Rows.{DecodeFails}
 use Rattle.rowexec.specs.Counts.{full_bits, policy_steps, retried}
 use Rattle.rowexec.specs.Evidence.{is_accepted, joined, shown_cells}
 use Rattle.rowexec.specs.Rows.{full_cells, types_of}
 use Rattle.rowexec.specs.Visits.{Attempted}
-use Rattle.rowexec.specs.declared.execute.retry.DenseAttempt.{DenseAttempt}
-use Rattle.rowexec.specs.declared.execute.retry.DenseAttempt.TheVariants.{DeferredError, Values}
+use Rattle.rowloops.specs.declared.retry.DenseAttempt.{DenseAttempt}
+use Rattle.rowloops.specs.declared.retry.DenseAttempt.TheVariants.{DeferredError, Values}
 use Rattle.rowexec.proofs.Retrying.{after_answered, after_least, err_given, ok_counted, ok_given, retried_within, steps_accepted, steps_least, steps_rejected}
 use Rattle.rowexec.proofs.Selected.{trues_below, valid_column}
 use Rattle.rowexec.proofs.Unread.{read_fails}

@@ -1,8 +1,8 @@
 use Rattle.std.proofs.Common.{◌≡◌, ◌∙◌, ◌<◌, ◌≤◌, ℕ, arith, inr, length, None, Ok, Err, refl, sym, subst}
 use Rattle.std.specs.Prelude.{is_some}
 use Rattle.bitlane.specs.Bits.{bit}
-use Rattle.colbase.specs.Keep.{trues}
-use Rattle.colbase.specs.declared.fault.Fault.TheVariants.{Row}
+use Rattle.coltypes.specs.Keep.{trues}
+use Rattle.coltypes.specs.declared.fault.Fault.TheVariants.{Row}
 use Rattle.rowexec.specs.Counts.{full_bits, retried}
 use Rattle.rowexec.specs.Rows.{EachHasRows, full_cells, types_of}
 use Rattle.rowexec.proofs.Retrying.{after_answered, error_stands, if_answered, retried_none_full, retried_some}

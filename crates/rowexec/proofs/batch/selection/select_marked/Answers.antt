@@ -1,6 +1,6 @@
 use Rattle.std.proofs.Common.{◌≡◌, ◌<◌, ℕ, Bool, List, length, refl, subst, sym}
 use Rattle.bitlane.specs.Bits.{bit}
-use Rattle.colbase.specs.Keep.{trues}
+use Rattle.coltypes.specs.Keep.{trues}
 use Rattle.rowexec.proofs.Selecting.{some_mark, some_marked, some_unmarked}
 use Rattle.rowexec.proofs.batch.selection.select_marked.Goals as goal
 

@@ -1,5 +1,5 @@
 use Rattle.std.proofs.Common.{ap, inl, inr, sym}
-use Rattle.colbase.specs.Valid.{valid_at}
+use Rattle.coltypes.specs.Valid.{valid_at}
 use Rattle.rowexec.specs.Counts.{runs_valid_only}
 use Rattle.rowexec.proofs.Selecting.{all_valid, selected}
 use Rattle.rowexec.proofs.batch.selection.select_rows.Goals as goal

@@ -1,6 +1,7 @@
 use Rattle.std.proofs.Common.{◌∙◌, length, ap, sym}
 use Rattle.rowexec.proofs.Batches.{as_many_types}
-use Rattle.rowexec.proofs.StrictRows.{accepted_from, as_many}
+use Rattle.rowexec.proofs.StrictRows.{accepted_from}
+use Rattle.rowplan.proofs.Types.{as_many}
 use Rattle.rowtypes.specs.Rows.{logical_types}
 use Rattle.rowexec.proofs.batch.valid.execute_direct.Goals as goal
 

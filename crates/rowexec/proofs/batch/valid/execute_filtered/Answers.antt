@@ -5,7 +5,8 @@ use Rattle.rowexec.specs.Rows.{types_of}
 use Rattle.rowexec.specs.Selections.{FilteredFrom}
 use Rattle.rowexec.proofs.Batches.{as_many_types}
 use Rattle.rowexec.proofs.Filtered.{full_kept, ran_kept, rows_kept, types_kept}
-use Rattle.rowexec.proofs.StrictRows.{accepted_from, as_many}
+use Rattle.rowexec.proofs.StrictRows.{accepted_from}
+use Rattle.rowplan.proofs.Types.{as_many}
 use Rattle.rowexec.proofs.batch.valid.execute_filtered.Goals as goal
 
 pub dispatch-requires-clause-arity : goal.dispatch-requires-clause-arity

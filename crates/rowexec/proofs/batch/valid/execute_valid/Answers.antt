@@ -1,7 +1,7 @@
 use Rattle.std.proofs.Common.{length, ◌⊎◌, inl, inr}
 use Rattle.colbase.specs.Arrays.{Array}
-use Rattle.colbase.specs.Keep.{trues}
-use Rattle.colbase.specs.declared.fault.Fault.{Fault}
+use Rattle.coltypes.specs.Keep.{trues}
+use Rattle.coltypes.specs.declared.fault.Fault.{Fault}
 use Rattle.rowtypes.specs.Rows.{DecodeFails}
 use Rattle.rowexec.specs.Evidence.{EvidenceFails, joined}
 use Rattle.rowexec.specs.Reads.{ReadFails}

@@ -1,6 +1,6 @@
 use Rattle.std.proofs.Common.{◌≡◌, take}
 use Rattle.std.specs.Prelude.{vec_len, ◌≤◌, length}
-use Rattle.colbase.specs.Masks.{mask_bits}
+use Rattle.coltypes.specs.Masks.{mask_bits}
 use Rattle.rowexec.specs.Selections.{FilteredFrom}
 use Rattle.rowexec.proofs.batch.valid.filter_columns.Given as goal
 

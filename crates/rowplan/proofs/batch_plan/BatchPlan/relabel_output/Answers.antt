@@ -1,6 +1,6 @@
 use Rattle.std.proofs.Common.{◌≡◌, ◌∙◌, sym, ap, rules}
 use Rattle.colbase.specs.Arrays.{dtype}
-use Rattle.colbase.specs.LogicalTypeOf.{logical_type}
+use Rattle.coltypes.specs.LogicalTypeOf.{logical_type}
 use Rattle.rowplan.specs.Labels.{label_storage}
 use Rattle.rowplan.proofs.Labelled.{errors_labelled, payload_labelled, rows_labelled, storage_with}
 use Rattle.rowplan.proofs.Types.{true_is_same}

@@ -1,5 +1,5 @@
 use Rattle.std.proofs.Common.{refl, rules}
-use Rattle.colbase.specs.LogicalTypeOf.{logical_type}
+use Rattle.coltypes.specs.LogicalTypeOf.{logical_type}
 use Rattle.rowplan.proofs.Types.{same_is_true}
 use Rattle.rowplan.proofs.batch_plan.labels.own_label.Goals as goal
 

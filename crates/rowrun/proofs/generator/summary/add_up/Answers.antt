@@ -1,6 +1,6 @@
 use Rattle.std.proofs.Common.{◌≡◌, ◌∙◌, ℤ, ◌+ℤ◌, pos, Bool, Some, None, get_or, if◌then◌else◌, w64, SFits, to_z, of_z, rules, arith, ap, sym}
 use Rattle.std.proofs.lemmas.Int.{to_z-of_z}
-use Rattle.colbase.specs.Masks.{mask_bits}
+use Rattle.coltypes.specs.Masks.{mask_bits}
 use Rattle.rowrun.specs.Generator.{marked_at}
 use Rattle.rowrun.proofs.Tallied.{fits_more, row_tallied}
 use Rattle.rowrun.proofs.generator.summary.add_up.Goals as goal

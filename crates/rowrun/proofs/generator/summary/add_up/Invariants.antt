@@ -1,4 +1,4 @@
-use Rattle.colbase.specs.Masks.{mask_bits}
+use Rattle.coltypes.specs.Masks.{mask_bits}
 use Rattle.rowrun.specs.Generator.{marked_at}
 use Rattle.rowrun.proofs.Tallied.{Tallied}
 use Rattle.rowrun.proofs.generator.summary.add_up.Given as goal

@@ -1,6 +1,7 @@
 use Rattle.std.proofs.Common.{◌≡◌, ◌+◌, ◌<◌, ◌^◌, length, sym, ap, ◌∙◌, subst, arith, rules}
 use Rattle.std.proofs.lemmas.Grind.{common_steps}
-use Rattle.rowtypes.specs.Rows.{AcceptsFrom, DecodeFails, ReadsAllFrom, placed}
+use Rattle.rowtypes.specs.Rows.{AcceptsFrom, DecodeFails, ReadsAllFrom}
+use Rattle.rowelems.specs.Argument.{placed}
 use Rattle.rowtypes.specs.SideBySide.{side_by_side, reads_side_by_side}
 use Rattle.rowtypes.proofs.Lengths.{both_true}
 use Rattle.rowtypes.proofs.Sides.{accepted_first, accepted_second, all_read, joined_lengths, joined_values, length_shown, row_of_first, row_of_second, row_read, shown_joined}

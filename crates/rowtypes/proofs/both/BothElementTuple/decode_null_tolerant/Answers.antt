@@ -1,6 +1,7 @@
 use Rattle.std.proofs.Common.{◌&&◌, false, ◌≡◌, ◌+◌, ◌<◌, ◌^◌, length, sym, ap, ◌∙◌, subst, arith, rules}
 use Rattle.std.proofs.lemmas.Grind.{common_steps}
-use Rattle.rowtypes.specs.Rows.{all_tolerant, AcceptsFrom, DecodeFails, ReadsAllFrom, placed}
+use Rattle.rowtypes.specs.Rows.{all_tolerant, AcceptsFrom, DecodeFails, ReadsAllFrom}
+use Rattle.rowelems.specs.Argument.{placed}
 use Rattle.rowtypes.specs.SideBySide.{side_by_side, reads_side_by_side}
 use Rattle.rowtypes.proofs.Lengths.{and_false, both_true}
 use Rattle.rowtypes.proofs.Results.{some_of}

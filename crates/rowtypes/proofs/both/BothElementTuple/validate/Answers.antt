@@ -1,6 +1,6 @@
 use Rattle.std.proofs.Common.{◌≡◌, ◌+◌, ◌<◌, ◌^◌, length, ap, ◌∙◌, arith}
 use Rattle.std.proofs.lemmas.Grind.{common_steps}
-use Rattle.rowtypes.specs.Rows.{placed}
+use Rattle.rowelems.specs.Argument.{placed}
 use Rattle.rowtypes.proofs.SidesFail.{validated_err, validated_ok, validated_second}
 use Rattle.rowtypes.proofs.both.BothElementTuple.validate.Goals as goal
 

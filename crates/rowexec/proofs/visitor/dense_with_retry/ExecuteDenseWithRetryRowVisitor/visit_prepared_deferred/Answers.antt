@@ -1,14 +1,14 @@
 use Rattle.std.proofs.Common.{◌≡◌, ◌∙◌, ◌<◌, ℕ, true, List, length, sym, ap, subst, refl, inl, arith}
 use Rattle.std.specs.Prelude.{Some}
 use Rattle.colbase.specs.Arrays.{row}
-use Rattle.colbase.specs.Cell.{Cell}
-use Rattle.colbase.specs.declared.fault.Fault.{Fault}
+use Rattle.coltypes.specs.Cell.{Cell}
+use Rattle.coltypes.specs.declared.fault.Fault.{Fault}
 use Rattle.rowtypes.specs.Rows.{AgreesWith, DecodeFails, ReadsFrom, ReadsKnown, each_length, logical_types}
 use Rattle.rowtypes.proofs.Lengths.{has_row}
 use Rattle.rowexec.specs.Evidence.{shown_cells}
 use Rattle.rowexec.specs.Rows.{full_cells}
 use Rattle.rowexec.specs.Visits.{Attempted}
-use Rattle.rowexec.specs.declared.execute.retry.DenseAttempt.{DenseAttempt}
+use Rattle.rowloops.specs.declared.retry.DenseAttempt.{DenseAttempt}
 use Rattle.rowexec.proofs.Batches.{as_many_types, fails_same, shown_same}
 use Rattle.rowexec.proofs.FullRows.{shown_full}
 use Rattle.rowexec.proofs.JoinedColumns.{shown_are, shown_rows_column}

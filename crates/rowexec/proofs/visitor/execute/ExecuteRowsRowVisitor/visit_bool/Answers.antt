@@ -1,8 +1,8 @@
 use Rattle.std.proofs.Common.{◌≡◌, ◌∙◌, ◌<◌, ℕ, List, length, sym, ap, subst, inl, arith}
 use Rattle.std.specs.Prelude.{Some}
-use Rattle.colbase.specs.Cell.{Cell, truth}
-use Rattle.colbase.specs.LogicalType.{bool as bool_type}
-use Rattle.colbase.specs.declared.dtype.Nullability.TheVariants.{NonNullable}
+use Rattle.coltypes.specs.Cell.{Cell, truth}
+use Rattle.coltypes.specs.LogicalType.{bool as bool_type}
+use Rattle.coltypes.specs.declared.dtype.Nullability.TheVariants.{NonNullable}
 use Rattle.rowtypes.specs.Rows.{ReadsFrom, each_length, logical_types}
 use Rattle.rowtypes.proofs.Lengths.{has_row}
 use Rattle.rowexec.specs.Evidence.{EvidenceFails, joined}

@@ -1,6 +1,6 @@
 use Rattle.std.proofs.Common.{◌≡◌, ◌∙◌, ◌<◌, ℕ, List, length, sym, ap, subst, refl, inl, arith}
 use Rattle.std.specs.Prelude.{Some}
-use Rattle.colbase.specs.Cell.{Cell}
+use Rattle.coltypes.specs.Cell.{Cell}
 use Rattle.rowtypes.specs.Rows.{AgreesWith, ReadsFrom, ReadsKnown, each_length, logical_types}
 use Rattle.rowtypes.proofs.Lengths.{has_row}
 use Rattle.rowexec.specs.Evidence.{EvidenceFails, joined}

@@ -1,8 +1,8 @@
 use Rattle.std.proofs.Common.{◌≡◌, ◌∙◌, ◌<◌, ℕ, true, List, length, sym, ap, subst, inl, arith}
 use Rattle.std.specs.Prelude.{◌⊎◌, Some, Result}
 use Rattle.colbase.specs.Arrays.{Array, row}
-use Rattle.colbase.specs.Cell.{Cell}
-use Rattle.colbase.specs.declared.fault.Fault.{Fault}
+use Rattle.coltypes.specs.Cell.{Cell}
+use Rattle.coltypes.specs.declared.fault.Fault.{Fault}
 use Rattle.rowtypes.specs.Rows.{AgreesWith, DecodeFails, ReadsFrom, ReadsKnown, each_length, logical_types}
 use Rattle.rowtypes.proofs.Lengths.{has_row}
 use Rattle.rowexec.specs.Evidence.{EvidenceFails, joined}

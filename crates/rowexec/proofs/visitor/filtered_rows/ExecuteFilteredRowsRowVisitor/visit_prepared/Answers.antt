@@ -1,6 +1,6 @@
 use Rattle.std.proofs.Common.{◌∙◌, ◌<◌, ℕ, length, sym, ap, subst, refl, inl, arith}
 use Rattle.std.specs.Prelude.{count_by}
-use Rattle.colbase.specs.Keep.{trues}
+use Rattle.coltypes.specs.Keep.{trues}
 use Rattle.colbase.proofs.KeptRows.{trues-count_by}
 use Rattle.rowtypes.specs.Rows.{AgreesWith, ReadsFrom, ReadsKnown, decoded_lengths, each_length, logical_types}
 use Rattle.rowtypes.proofs.Lengths.{has_row}

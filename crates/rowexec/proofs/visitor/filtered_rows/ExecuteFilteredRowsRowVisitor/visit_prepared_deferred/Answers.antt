@@ -2,8 +2,8 @@ use Rattle.std.proofs.Common.{◌∙◌, ◌<◌, ℕ, true, length, sym, ap, su
 use Rattle.std.specs.Prelude.{◌⊎◌, ◌≤◌, Result, count_by}
 use Rattle.bitlane.proofs.Joins.{Joined-at}
 use Rattle.colbase.specs.Arrays.{Array, row}
-use Rattle.colbase.specs.Keep.{place, trues}
-use Rattle.colbase.specs.declared.fault.Fault.{Fault}
+use Rattle.coltypes.specs.Keep.{place, trues}
+use Rattle.coltypes.specs.declared.fault.Fault.{Fault}
 use Rattle.colbase.proofs.KeptRows.{trues-count_by}
 use Rattle.rowtypes.specs.Rows.{AgreesWith, DecodeFails, ReadsFrom, ReadsKnown, decoded_lengths, each_length, logical_types}
 use Rattle.rowtypes.proofs.Lengths.{has_row}

@@ -1,8 +1,8 @@
 use Rattle.std.proofs.Common.{◌∙◌, ◌<◌, ℕ, length, sym, ap, subst, refl, inl, arith}
 use Rattle.std.specs.Prelude.{◌⊎◌}
 use Rattle.colbase.specs.Arrays.{Array}
-use Rattle.colbase.specs.Keep.{trues}
-use Rattle.colbase.specs.declared.fault.Fault.{Fault}
+use Rattle.coltypes.specs.Keep.{trues}
+use Rattle.coltypes.specs.declared.fault.Fault.{Fault}
 use Rattle.rowtypes.specs.Rows.{AgreesWith, DecodeFails, ReadsFrom, ReadsKnown, each_length, logical_types}
 use Rattle.rowtypes.proofs.Lengths.{has_row}
 use Rattle.rowexec.specs.Evidence.{EvidenceFails, joined}

@@ -2,8 +2,8 @@ use Rattle.std.proofs.Common.{◌∙◌, ◌<◌, ℕ, length, sym, ap, subst, r
 use Rattle.std.specs.Prelude.{◌⊎◌, ◌≤◌, Result}
 use Rattle.bitlane.specs.Bits.{bit}
 use Rattle.colbase.specs.Arrays.{Array, row}
-use Rattle.colbase.specs.Keep.{trues}
-use Rattle.colbase.specs.declared.fault.Fault.{Fault}
+use Rattle.coltypes.specs.Keep.{trues}
+use Rattle.coltypes.specs.declared.fault.Fault.{Fault}
 use Rattle.colbase.proofs.KeptRows.{trues-count_by}
 use Rattle.rowtypes.specs.Rows.{AgreesWith, DecodeFails, ReadsFrom, ReadsKnown, each_length, logical_types}
 use Rattle.rowtypes.proofs.Lengths.{has_row}

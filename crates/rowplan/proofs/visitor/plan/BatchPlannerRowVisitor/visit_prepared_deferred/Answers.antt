@@ -1,6 +1,6 @@
 use Rattle.std.proofs.Common.{◌≡◌, ◌∙◌, None, sym, rules}
 use Rattle.std.specs.Prelude.{option_map}
-use Rattle.colbase.specs.LogicalTypeOf.{logical_type}
+use Rattle.coltypes.specs.LogicalTypeOf.{logical_type}
 use Rattle.rowtypes.specs.Rows.{first_refused, logical_types}
 use Rattle.rowplan.proofs.Planning.{planned_as}
 use Rattle.rowplan.proofs.Types.{as_many, refused_same}

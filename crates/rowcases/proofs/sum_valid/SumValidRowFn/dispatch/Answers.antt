@@ -1,0 +1,12 @@
+use Rattle.std.proofs.Common.{◌∙◌, refl, ap, length}
+use Rattle.rowplan.proofs.Types.{as_many}
+use Rattle.rowcases.proofs.sum_valid.SumValidRowFn.dispatch.Goals as goal
+
+pub visit-requires-clause-elements : goal.visit-requires-clause-elements
+visit-requires-clause-elements g c = record {
+  arity = refl;
+  count = ap length c.requires.types ∙ as_many c.args._types.now ∙ c.requires.arity;
+  fits = λ k t. refl;
+  reads = λ k x. (λ h. h, λ h. h);
+  shown = λ k a i. refl;
+}

@@ -1,0 +1,11 @@
+pub mod Exact
+pub mod ExactTypes
+pub mod Extensions
+pub mod Items
+pub mod JsonText
+pub mod Lines
+pub mod Names
+pub mod Nested
+pub mod Printing
+pub mod Ranges
+pub mod TypeText

@@ -1,0 +1,8 @@
+use Rattle.std.proofs.Common.{◌≡◌, drop}
+use Rattle.serde_json.specs.View.{items_view}
+use Rattle.rowjson.specs.Objects.{all_in}
+use Rattle.rowjson.proofs.Items.{with_front}
+use Rattle.rowjson.proofs.column.values.required_values.Given as goal
+
+abbrev pub invariant-loop-item : goal.invariant-loop-item
+invariant-loop-item g l = with_front l.values.items (all_in g.T.ColumnValue.states (items_view (drop l.item-index l.items))) ≡ all_in g.T.ColumnValue.states (items_view l.items)

@@ -1,9 +1,0 @@
-use Rattle.std.proofs.Common.{sym, ◌∙◌}
-use Rattle.colbase.specs.declared.dtype.PType.TheVariants as ptype
-use Rattle.rowrun.proofs.Ranges.{fits_bits, unsigned_read}
-use Rattle.rowrun.proofs.column.primitive.U8ColumnValue.read.Goals as goal
-
-pub returns : goal.returns
-returns c =
-    let n = c.in_ok-as_u64.field-0 in
-    c.ok.ensures.value ∙ unsigned_read ptype.U8 _ _ n c.try_from.result (fits_bits 8 n) (sym c.in_ok-as_u64.ensures) c.try_from.ensures

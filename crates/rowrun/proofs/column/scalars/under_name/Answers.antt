@@ -1,7 +1,0 @@
-use Rattle.std.proofs.Common.{◌∙◌}
-use Rattle.colbase.specs.LogicalTypeOf.{extension_type}
-use Rattle.rowrun.proofs.ExactTypes.{dtype_from, extension_exact}
-use Rattle.rowrun.proofs.column.scalars.under_name.Goals as goal
-
-pub returns-clause-dtype : goal.returns-clause-dtype
-returns-clause-dtype c = dtype_from c.extension.result.dtype (extension_type c.args.ext) c.extension.ensures.dtype ∙ extension_exact c.args.ext

@@ -1,8 +1,0 @@
-use Rattle.std.proofs.Common.{◌≡◌, drop}
-use Rattle.serde_json.specs.View.{items_view}
-use Rattle.rowrun.specs.Columns.{columns_in}
-use Rattle.rowrun.proofs.Items.{with_front}
-use Rattle.rowrun.proofs.input.columns_in.Given as goal
-
-abbrev pub invariant-loop-item : goal.invariant-loop-item
-invariant-loop-item l = with_front l.columns.items (columns_in (items_view (drop l.item-index l.items))) ≡ columns_in (items_view l.items)

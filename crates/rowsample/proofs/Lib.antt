@@ -1,0 +1,3 @@
+pub mod ExactNumbers
+pub mod Powers
+pub mod SameElements

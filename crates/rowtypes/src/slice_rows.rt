@@ -1,7 +1,0 @@
-/// Rows in a slice that a loop writes.
-#[derive(Drop)]
-pub struct SliceRows<'a, T>(pub &'a mut [T]);
-
-/// Rows that already hold what an unwritten row is to hold, so that nothing is filled.
-#[derive(Drop)]
-pub struct Preinitialized<R>(pub R);
