@@ -1,5 +1,5 @@
 // The definition of the text of types and cells, computed on worked values of types that no function of the program answers.
-ghost use Rattle.std.specs.Prelude.{◌≡◌, [], ◌∷◌, Some, None, pos, codes};
+ghost use Rattle.std.specs.Prelude.{◌≡◌, [], ◌∷◌, Some, None, pos, true, false, codes};
 ghost use Rattle.coltypes.specs.Cell.{truth, bytes, list_of, number};
 ghost use Rattle.coltypes.specs.LogicalType.{null, bool, primitive, utf8, binary, list, fixed_size_list, extension};
 ghost use Rattle.coltypes.specs.declared.dtype.PType.TheVariants.{I8, I16, I32, I64, U8, U16, U32, U64};
