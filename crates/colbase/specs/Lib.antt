@@ -1,3 +1,4 @@
+-- Arrays as plain data by layout, their parts, the checks of their constructors, and what each operation does to rows.
 pub mod Column
 pub mod Arrays
 pub mod ArrayCode

@@ -1,3 +1,4 @@
+-- Cells and logical types first, then what scalars, validity, masks and values are in their terms.
 pub mod Cell
 pub mod LogicalType
 pub mod LogicalTypeOf

@@ -1,1 +1,2 @@
+-- What the row functions for tests mean.
 pub mod Cases

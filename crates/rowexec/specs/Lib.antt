@@ -1,3 +1,4 @@
+-- What a call over whole columns means row by row, its causes and its counts.
 pub mod Batch
 pub mod Calls
 pub mod Counts

@@ -1,3 +1,4 @@
+-- Which arrays JSON values state, and the text of a column.
 pub mod Columns
 pub mod DtypeOf
 pub mod Objects

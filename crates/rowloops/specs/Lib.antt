@@ -1,1 +1,2 @@
+-- What the loops over decoded rows answer.
 pub mod Answers

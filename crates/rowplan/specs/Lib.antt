@@ -1,3 +1,4 @@
+-- Outcomes and outputs of a row function, policies, plans, and what each visit asks.
 pub mod Labels
 pub mod Outcomes
 pub mod Outputs

@@ -1,3 +1,4 @@
+-- Batches, results and faults, generated rows, and the words of the command line.
 pub mod Batch
 pub mod BatchView
 pub mod Faults

@@ -1,2 +1,3 @@
+-- What the functions of the program mean, row by row.
 pub mod Functions
 pub mod Powers

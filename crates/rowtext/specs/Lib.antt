@@ -1,3 +1,4 @@
+-- What a source and a sink did, and how a top call ends, by its causes.
 pub mod Bytes
 pub mod Causes
 pub mod Changes
