@@ -7,9 +7,8 @@ use colbase::{ArrayRef, DType, ExecutionCtx, Res};
 mod boolean;
 mod decimal_scale;
 mod integer;
-mod signed;
+mod native_integers;
 mod timestamp_row;
-mod unsigned;
 
 pub use decimal_scale::DecimalScale;
 pub use timestamp_row::TimestampRow;

@@ -1,20 +1,24 @@
-// What the eight integer elements share: the payload of an array and the value of a constant, over any native integer.
+// The elements of the eight integers, by one impl: it reads the payload of an array below its masks, and the value of
+// a constant, over any native integer.
 ghost use Rattle.std.specs.Prelude.{◌≡◌, ◌<◌, ℕ, IsTrue, length, pos, true, replicate, Some, IsSome, IfOk, IfErr};
 ghost use Rattle.coltypes.specs.Cell.{Cell, number};
 ghost use Rattle.colbase.specs.Arrays.{dtype, len, MustRead, constant_cell as cell_of_constant};
 ghost use Rattle.colbase.specs.Layouts.{is_constant};
 ghost use Rattle.coltypes.specs.Fits.{in_range, storage_type};
+ghost use Rattle.coltypes.specs.LogicalTypeOf.{logical_type};
 ghost use Rattle.coltypes.specs.Values.{number_at, count};
 ghost use Rattle.rowelems.specs.Elements.{shown_number};
 ghost use Rattle.rowelems.specs.Reading.{is_integer, IsNumberOf};
 ghost use Rattle.rowelems.specs.Shown.{stored_or};
 
+use super::InputElement;
 use crate::batch::below_masks;
-use colbase::{ArrayRef, Buffer, ExecutionCtx, Fault, NativeInt, Res, ScalarValue};
+use colbase::{ArrayRef, Buffer, DType, ExecutionCtx, Fault, NativeInt, PType, Res, ScalarValue};
 
-/// An integer type, as far as decoding needs it.
-pub(crate) trait ElementInt: NativeInt {
-    ghost use Rattle.std.specs.Prelude.{IsTrue, replicate};
+/// An integer type, as far as decoding needs it. It is a trait of this crate, so that the impl for all of its types can
+/// stand beside those for other types.
+pub trait ElementInt: NativeInt {
+    ghost use Rattle.std.specs.Prelude.{◌≡◌, IsTrue};
     ghost use Rattle.coltypes.specs.Fits.{in_range};
 
     /// A number in the type's range.
@@ -26,10 +30,116 @@ pub(crate) trait ElementInt: NativeInt {
     fn check(self)
         ensures { IsTrue (in_range Self.ptype (Self.number self)) };
 
-    /// The same value in each row.
-    fn filled(value: Self, rows: usize, ctx: ExecutionCtx) -> Res<Buffer<Self>>
-        ensures value { IfOk result (λ b. b ≡ replicate rows value) }
-        ensures errors { IfErr result (λ e. e ≡ Fault.Memory) };
+    // A clone is the value itself.
+    ghost cloned: { (x y : Self) → Self.is_clone x y → y ≡ x };
+}
+
+/// Numbers of the type. Under nulls the stored number is shown, and zero where none is stored.
+impl<T: ElementInt> InputElement for T {
+    ghost use Rattle.std.specs.Prelude.{length, true, pos};
+    ghost use Rattle.coltypes.specs.Cell.{number};
+    ghost use Rattle.coltypes.specs.Values.{number_at};
+    ghost use Rattle.rowelems.specs.Elements.{shown_number};
+    ghost use Rattle.rowelems.specs.Reading.{is_integer, IsNumberOf};
+    ghost use Rattle.rowelems.specs.Shown.{stored_or, shown_by_constant, shown_by_row};
+
+    type Column = Buffer<T>;
+
+    type Constant = T;
+
+    type Elem = T;
+
+    const DENSE_SAFE: bool = true;
+
+    const DECODE_INFALLIBLE: bool = true;
+
+    ghost DENSE_SAFE = { true };
+
+    ghost DECODE_INFALLIBLE = { true };
+
+    ghost accepts = { is_integer T.ptype };
+
+    ghost reads = { IsNumberOf T.ptype };
+
+    ghost shown = { shown_number };
+
+    ghost cell = { λ x. number (T.number x) };
+
+    ghost count = { λ c. length c };
+
+    ghost shows = { λ c i. number (number_at (T.stored c) i) };
+
+    ghost constant_cell = { λ x. number (T.number x) };
+
+    ghost null_tolerant = { λ a. true };
+
+    ghost shown_constant = { shown_by_constant (stored_or (number (pos 0))) };
+
+    ghost shown_row = { shown_by_row (stored_or (number (pos 0))) };
+
+    fn validate(dtype: &DType) -> Res<()> {
+        if is_integer(dtype, T::integer_type()) {
+            Ok(())
+        } else {
+            Err(Fault::Dtype { index: 0 })
+        }
+    }
+
+    fn decode(array: &ArrayRef, ctx: ExecutionCtx) -> Res<Buffer<T>> {
+        decode_numbers(array, ctx)
+    }
+
+    fn decode_constant(array: &ArrayRef, _ctx: ExecutionCtx) -> Res<T> {
+        let value: T = constant_number(array);
+        value.check();
+        Ok(value)
+    }
+
+    fn can_decode_null_tolerant(_array: &ArrayRef) -> bool {
+        true
+    }
+
+    fn decode_null_tolerant(array: &ArrayRef, ctx: ExecutionCtx) -> Res<Option<Buffer<T>>> {
+        Ok(Some(decode_numbers(array, ctx)?))
+    }
+
+    fn column_len(column: &Buffer<T>) -> usize {
+        column.len()
+    }
+
+    fn get(column: &Buffer<T>, index: usize) -> T {
+        column.as_slice()[index]
+    }
+
+    fn get_constant(constant: &T) -> T {
+        *constant
+    }
+
+    fn values(column: &Buffer<T>) -> Option<&[T]> {
+        Some(column.as_slice())
+    }
+
+    fn again(value: &T) -> T {
+        *value
+    }
+}
+
+// Whether the type is this integer type, nullable or not.
+fn is_integer(dtype: &DType, ptype: PType) -> bool
+    ensures { result ≡ is_integer ptype (logical_type dtype.now) }
+{
+    match dtype {
+        DType::Primitive(stated, _) => ptype == *stated,
+        _ => false,
+    }
+}
+
+/// The same value in each row.
+pub(crate) fn filled<T: ElementInt>(value: T, rows: usize, ctx: ExecutionCtx) -> Res<Buffer<T>>
+    ensures value { IfOk result (λ b. b ≡ replicate rows value) }
+    ensures errors { IfErr result (λ e. e ≡ Fault.Memory) }
+{
+    Buffer::from_vec(Vec::from_elem(ctx.alloc(), value, rows)?, ctx)
 }
 
 /// The payload of an array of this integer type. It shares the array's buffer; a constant is written out.
@@ -65,7 +175,7 @@ pub(crate) fn stored_numbers<T: ElementInt>(array: &ArrayRef, ctx: ExecutionCtx)
     let stored = below_masks(array);
     match T::values_of(stored) {
         Some(values) => Ok(values.share()),
-        None => T::filled(stored_number(stored), array.len(), ctx),
+        None => filled(stored_number(stored), array.len(), ctx),
     }
 }
 

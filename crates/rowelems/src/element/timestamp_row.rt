@@ -11,7 +11,7 @@ ghost use Rattle.rowelems.specs.Elements.{shown_number};
 ghost use Rattle.rowelems.specs.Reading.{is_integer, is_time_unit, is_timestamp, timestamp_name, IsNumberOf};
 
 use super::InputElement;
-use super::integer::{ElementInt, checks, constant_number, stored_number, stored_numbers};
+use super::integer::{checks, constant_number, filled, stored_number, stored_numbers};
 use crate::batch::below_masks;
 use colbase::{ArrayRef, Buffer, DType, ExecutionCtx, ExtDType, Fault, Name, PType, Res, TimeUnit};
 
@@ -170,7 +170,7 @@ fn stored_timestamps(array: &ArrayRef, ctx: ExecutionCtx) -> Res<Buffer<i64>>
     outer.checks();
     match outer.ext_storage() {
         Some(storage) => stored_numbers(storage, ctx),
-        None => i64::filled(stored_number(outer), array.len(), ctx),
+        None => filled(stored_number(outer), array.len(), ctx),
     }
 }
 
