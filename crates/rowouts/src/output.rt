@@ -9,8 +9,7 @@ use colbase::{ArrayRef, DType, ExecutionCtx, Fault, Res};
 
 mod booleans;
 mod integers;
-mod signed;
-mod unsigned;
+mod native_integers;
 
 /// A value that a row function writes, and how a column is made of such values.
 pub trait OutputElement: Copy + Default + ColumnValue {

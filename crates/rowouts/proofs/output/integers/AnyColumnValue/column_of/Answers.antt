@@ -6,7 +6,7 @@ use Rattle.coltypes.specs.LogicalType.{primitive}
 use Rattle.colbase.specs.Arrays.{column, primitive as primitive_array}
 use Rattle.rowouts.specs.Outputs.{full_column}
 use Rattle.rowouts.proofs.Columns.{built, column-numbers}
-use Rattle.rowouts.proofs.output.integers.number_column.Goals as goal
+use Rattle.rowouts.proofs.output.integers.AnyColumnValue.column_of.Goals as goal
 
 pub returns-clause-column : goal.returns-clause-column
 returns-clause-column g c =
