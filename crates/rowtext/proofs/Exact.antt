@@ -48,14 +48,14 @@ leads_all leads source bytes answer told all =
     subst (λ (b : List ℕ). leads b answer) (all_bytes source bytes (λ b. leads b answer) told all) all.4
 
 -- Where the sink did not fail, a reply that has its cause was written whole, or memory ran out.
-wrote_whole : {cause : Reply → Type 0} {status : ℕ} {sink : Change} (P : Reply → Type 0) → ((reply : Reply) → cause reply → P reply) → IsSteady sink → Ends cause status sink → WroteWhole P status sink
-wrote_whole P so s (memory is kept) = inl (is, kept)
+wrote_whole : {cause : Reply → Type 0} {kept : Type 0} {status : ℕ} {sink : Change} (P : Reply → Type 0) → ((reply : Reply) → cause reply → P reply) → IsSteady sink → Ends cause kept status sink → WroteWhole P status sink
+wrote_whole P so s (memory is held kept) = inl (is, kept)
 wrote_whole P so s (wrote reply c (whole is gained)) = inr (reply, so reply c, is, gained)
 wrote_whole {sink = sink} P so s (wrote reply c (cut is failed prefix proper gained)) = absurd (steady sink s failed)
 
 -- The same, where the status is not that of a failed reading.
-wrote_read : {cause : Reply → Type 0} {status : ℕ} {sink : Change} (P : Reply → Type 0) → ((reply : Reply) → cause reply → (reply_status reply ≡ 5 → ⊥) → P reply) → (status ≡ 5 → ⊥) → IsSteady sink → Ends cause status sink → WroteWhole P status sink
-wrote_read P so ne s (memory is kept) = inl (is, kept)
+wrote_read : {cause : Reply → Type 0} {kept : Type 0} {status : ℕ} {sink : Change} (P : Reply → Type 0) → ((reply : Reply) → cause reply → (reply_status reply ≡ 5 → ⊥) → P reply) → (status ≡ 5 → ⊥) → IsSteady sink → Ends cause kept status sink → WroteWhole P status sink
+wrote_read P so ne s (memory is held kept) = inl (is, kept)
 wrote_read P so ne s (wrote reply c (whole is gained)) = inr (reply, so reply c (λ five. ne (is ∙ five)), is, gained)
 wrote_read {sink = sink} P so ne s (wrote reply c (cut is failed prefix proper gained)) = absurd (steady sink s failed)
 
@@ -109,23 +109,23 @@ words_of (Answered answer) is (of_input a with all) = cc
 words_of (Answered answer) is (of_words a without kept led) = led
 
 -- Words that the call doesn't know give status 1, unless the sink fails.
-pub refused : {command : Command} {words_lead : Answer → Type 0} {input_leads : List ℕ → Answer → Type 0} {source : Change} {status : ℕ} {sink : Change} → Ends (HasCause command words_lead input_leads source) status sink → command ≡ Unknown → IsSteady sink → WroteWhole (λ reply. reply ≡ Usage) status sink
+pub refused : {command : Command} {words_lead : Answer → Type 0} {input_leads : List ℕ → Answer → Type 0} {source : Change} {kept : Type 0} {status : ℕ} {sink : Change} → Ends (HasCause command words_lead input_leads source) kept status sink → command ≡ Unknown → IsSteady sink → WroteWhole (λ reply. reply ≡ Usage) status sink
 refused ends is sink = wrote_whole (λ reply. reply ≡ Usage) (λ reply cause. usage_of reply is cause) sink ends
 
 -- More bytes than an input may have give status 7, unless the sink fails.
-pub too_long : {command : Command} {words_lead : Answer → Type 0} {input_leads : List ℕ → Answer → Type 0} {source : Change} {status : ℕ} {sink : Change} → Ends (HasCause command words_lead input_leads source) status sink → (bytes : List ℕ) → command ≡ WithInput → source.before ≡ Some bytes → TookTooMany source → IsSteady sink → WroteWhole (λ reply. reply ≡ Long) status sink
+pub too_long : {command : Command} {words_lead : Answer → Type 0} {input_leads : List ℕ → Answer → Type 0} {source : Change} {kept : Type 0} {status : ℕ} {sink : Change} → Ends (HasCause command words_lead input_leads source) kept status sink → (bytes : List ℕ) → command ≡ WithInput → source.before ≡ Some bytes → TookTooMany source → IsSteady sink → WroteWhole (λ reply. reply ≡ Long) status sink
 too_long ends bytes is told many sink = wrote_whole (λ reply. reply ≡ Long) (λ reply cause. long_of bytes reply is told many cause) sink ends
 
 -- Where all the bytes were taken and the status isn't that of a failed reading, they alone decide, unless the sink fails.
-pub exact : {command : Command} {words_lead : Answer → Type 0} {input_leads : List ℕ → Answer → Type 0} {source : Change} {status : ℕ} {sink : Change} → Ends (HasCause command words_lead input_leads source) status sink → (bytes : List ℕ) → command ≡ WithInput → source.before ≡ Some bytes → TookAll source (λ b. ⊤) → (status ≡ 5 → ⊥) → IsSteady sink → WroteWhole (IsAnswer (input_leads bytes)) status sink
+pub exact : {command : Command} {words_lead : Answer → Type 0} {input_leads : List ℕ → Answer → Type 0} {source : Change} {kept : Type 0} {status : ℕ} {sink : Change} → Ends (HasCause command words_lead input_leads source) kept status sink → (bytes : List ℕ) → command ≡ WithInput → source.before ≡ Some bytes → TookAll source (λ b. ⊤) → (status ≡ 5 → ⊥) → IsSteady sink → WroteWhole (IsAnswer (input_leads bytes)) status sink
 exact {input_leads = input_leads} ends bytes is told all ne sink =
     wrote_read (IsAnswer (input_leads bytes)) (λ reply cause. answer_of bytes reply is told all cause) ne sink ends
 
 -- Where neither the source nor the sink fails, the input alone decides, unless memory runs out.
-pub complete : {command : Command} {words_lead : Answer → Type 0} {input_leads : List ℕ → Answer → Type 0} {source : Change} {status : ℕ} {sink : Change} → Ends (HasCause command words_lead input_leads source) status sink → (bytes : List ℕ) → command ≡ WithInput → source.before ≡ Some bytes → IsSteady source → IsSteady sink → WroteWhole (InputLeads input_leads bytes) status sink
+pub complete : {command : Command} {words_lead : Answer → Type 0} {input_leads : List ℕ → Answer → Type 0} {source : Change} {kept : Type 0} {status : ℕ} {sink : Change} → Ends (HasCause command words_lead input_leads source) kept status sink → (bytes : List ℕ) → command ≡ WithInput → source.before ≡ Some bytes → IsSteady source → IsSteady sink → WroteWhole (InputLeads input_leads bytes) status sink
 complete {input_leads = input_leads} ends bytes is told source sink =
     wrote_whole (InputLeads input_leads bytes) (λ reply cause. reply_of bytes reply is told source cause) sink ends
 
 -- Words that need no input decide alone, unless the sink fails or memory runs out.
-pub words_alone : {command : Command} {words_lead : Answer → Type 0} {input_leads : List ℕ → Answer → Type 0} {source : Change} {status : ℕ} {sink : Change} → Ends (HasCause command words_lead input_leads source) status sink → command ≡ WithoutInput → IsSteady sink → WroteWhole (IsAnswer words_lead) status sink
+pub words_alone : {command : Command} {words_lead : Answer → Type 0} {input_leads : List ℕ → Answer → Type 0} {source : Change} {kept : Type 0} {status : ℕ} {sink : Change} → Ends (HasCause command words_lead input_leads source) kept status sink → command ≡ WithoutInput → IsSteady sink → WroteWhole (IsAnswer words_lead) status sink
 words_alone {words_lead = words_lead} ends is sink = wrote_whole (IsAnswer words_lead) (λ reply cause. words_of reply is cause) sink ends

@@ -16,14 +16,14 @@ from_input answer none (of_input a with all) = all
 from_input answer none (of_words a without kept led) = absurd (none without a led)
 
 -- Where no words alone lead to an answer, status 0 says that the text of the input's answer was written.
-pub printed : {command : Command} {words_lead : Answer → Type 0} {input_leads : List ℕ → Answer → Type 0} {source : Change} {status : ℕ} {sink : Change} → Ends (HasCause command words_lead input_leads source) status sink → (command ≡ WithoutInput → (a : Answer) → words_lead a → ⊥) → status ≡ 0 → TookAll source (λ bytes. (text : List ℕ) × input_leads bytes (Printed text) × Gained sink text)
+pub printed : {command : Command} {words_lead : Answer → Type 0} {input_leads : List ℕ → Answer → Type 0} {source : Change} {kept : Type 0} {status : ℕ} {sink : Change} → Ends (HasCause command words_lead input_leads source) kept status sink → (command ≡ WithoutInput → (a : Answer) → words_lead a → ⊥) → status ≡ 0 → TookAll source (λ bytes. (text : List ℕ) × input_leads bytes (Printed text) × Gained sink text)
 printed ends none is =
     let did = of_zero ends is in
     let all = from_input (Printed did.0) none did.1 in
     (all.0, all.1, all.2, all.3, (did.0, all.4, did.2))
 
 -- The same of status 3 and the text of a fault.
-pub faulted : {command : Command} {words_lead : Answer → Type 0} {input_leads : List ℕ → Answer → Type 0} {source : Change} {status : ℕ} {sink : Change} → Ends (HasCause command words_lead input_leads source) status sink → (command ≡ WithoutInput → (a : Answer) → words_lead a → ⊥) → status ≡ 3 → TookAll source (λ bytes. (text : List ℕ) × input_leads bytes (Fault text) × Gained sink text)
+pub faulted : {command : Command} {words_lead : Answer → Type 0} {input_leads : List ℕ → Answer → Type 0} {source : Change} {kept : Type 0} {status : ℕ} {sink : Change} → Ends (HasCause command words_lead input_leads source) kept status sink → (command ≡ WithoutInput → (a : Answer) → words_lead a → ⊥) → status ≡ 3 → TookAll source (λ bytes. (text : List ℕ) × input_leads bytes (Fault text) × Gained sink text)
 faulted ends none is =
     let did = of_three ends is in
     let all = from_input (Fault did.0) none did.1 in

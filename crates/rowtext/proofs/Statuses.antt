@@ -34,21 +34,21 @@ only_unbuilt (Answered Unbuilt) e = refl
 only_unbuilt reply e = absurd (omega (arith, e))
 
 -- a status that one reply has: its cause, and its text
-of_one : {cause : Reply → Type 0} {status : ℕ} {sink : Change} (n : ℕ) (only : Reply) → ((reply : Reply) → reply_status reply ≡ n → reply ≡ only) → (n ≡ 4 → ⊥) → (n ≡ 6 → ⊥) → Ends cause status sink → status ≡ n → Did cause sink only
-of_one n only is_only not_memory not_cut (memory four kept) is = absurd (not_memory (sym is ∙ four))
+of_one : {cause : Reply → Type 0} {kept : Type 0} {status : ℕ} {sink : Change} (n : ℕ) (only : Reply) → ((reply : Reply) → reply_status reply ≡ n → reply ≡ only) → (n ≡ 4 → ⊥) → (n ≡ 6 → ⊥) → Ends cause kept status sink → status ≡ n → Did cause sink only
+of_one n only is_only not_memory not_cut (memory four so kept) is = absurd (not_memory (sym is ∙ four))
 of_one n only is_only not_memory not_cut (wrote reply c (cut six failed prefix proper gained)) is = absurd (not_cut (sym is ∙ six))
 of_one {cause = cause} {sink = sink} n only is_only not_memory not_cut (wrote reply c (whole s gained)) is =
     let same : reply ≡ only = is_only reply (sym s ∙ is) in
     (subst cause same c, subst (λ (p : Reply). Gained sink (reply_text p)) same gained)
 
-pub of_zero : {cause : Reply → Type 0} {status : ℕ} {sink : Change} → Ends cause status sink → status ≡ 0 → (text : List ℕ) × cause (Answered (Printed text)) × Gained sink text
-of_zero (memory four kept) is = absurd (omega (arith, is, four))
+pub of_zero : {cause : Reply → Type 0} {kept : Type 0} {status : ℕ} {sink : Change} → Ends cause kept status sink → status ≡ 0 → (text : List ℕ) × cause (Answered (Printed text)) × Gained sink text
+of_zero (memory four so kept) is = absurd (omega (arith, is, four))
 of_zero (wrote reply c (cut six failed prefix proper gained)) is = absurd (omega (arith, is, six))
 of_zero (wrote (Answered (Printed text)) c (whole s gained)) is = (text, c, gained)
 of_zero (wrote reply c (whole s gained)) is = absurd (omega (arith, is, s))
 
-pub of_three : {cause : Reply → Type 0} {status : ℕ} {sink : Change} → Ends cause status sink → status ≡ 3 → (text : List ℕ) × cause (Answered (Fault text)) × Gained sink text
-of_three (memory four kept) is = absurd (omega (arith, is, four))
+pub of_three : {cause : Reply → Type 0} {kept : Type 0} {status : ℕ} {sink : Change} → Ends cause kept status sink → status ≡ 3 → (text : List ℕ) × cause (Answered (Fault text)) × Gained sink text
+of_three (memory four so kept) is = absurd (omega (arith, is, four))
 of_three (wrote reply c (cut six failed prefix proper gained)) is = absurd (omega (arith, is, six))
 of_three (wrote (Answered (Fault text)) c (whole s gained)) is = (text, c, gained)
 of_three (wrote reply c (whole s gained)) is = absurd (omega (arith, is, s))
@@ -75,22 +75,22 @@ in_range (Answered (Fault text)) = omega arith
 in_range (Answered Unbuilt) = omega arith
 in_range reply = omega arith
 
-of_four : {cause : Reply → Type 0} {status : ℕ} {sink : Change} → Ends cause status sink → status ≡ 4 → IsUntouched sink
-of_four (memory four kept) is = kept
+of_four : {cause : Reply → Type 0} {kept : Type 0} {status : ℕ} {sink : Change} → Ends cause kept status sink → status ≡ 4 → kept × IsUntouched sink
+of_four (memory four so untouched) is = (so, untouched)
 of_four (wrote reply c (cut six failed prefix proper gained)) is = absurd (omega (arith, is, six))
 of_four (wrote reply c (whole s gained)) is = absurd (not_four reply (sym s ∙ is))
 
-of_six : {cause : Reply → Type 0} {status : ℕ} {sink : Change} → Ends cause status sink → status ≡ 6 → (reply : Reply) × cause reply × HasFailed sink × (prefix : List ℕ) × IsProperPrefix prefix (reply_text reply) × Gained sink prefix
-of_six (memory four kept) is = absurd (omega (arith, is, four))
+of_six : {cause : Reply → Type 0} {kept : Type 0} {status : ℕ} {sink : Change} → Ends cause kept status sink → status ≡ 6 → (reply : Reply) × cause reply × HasFailed sink × (prefix : List ℕ) × IsProperPrefix prefix (reply_text reply) × Gained sink prefix
+of_six (memory four so kept) is = absurd (omega (arith, is, four))
 of_six (wrote reply c (cut six failed prefix proper gained)) is = (reply, c, failed, prefix, proper, gained)
 of_six (wrote reply c (whole s gained)) is = absurd (not_six reply (sym s ∙ is))
 
-known : {cause : Reply → Type 0} {status : ℕ} {sink : Change} → Ends cause status sink → status ≤ 8
-known (memory four kept) = omega (arith, four)
+known : {cause : Reply → Type 0} {kept : Type 0} {status : ℕ} {sink : Change} → Ends cause kept status sink → status ≤ 8
+known (memory four so kept) = omega (arith, four)
 known (wrote reply c (cut six failed prefix proper gained)) = omega (arith, six)
 known (wrote reply c (whole s gained)) = omega (arith, s, in_range reply)
 
-pub by_status : {cause : Reply → Type 0} {status : ℕ} {sink : Change} → Ends cause status sink → ByStatus cause status sink
+pub by_status : {cause : Reply → Type 0} {kept : Type 0} {status : ℕ} {sink : Change} → Ends cause kept status sink → ByStatus cause kept status sink
 by_status ends = record {
   is_printed = of_zero ends;
   is_usage = of_one 1 Usage only_usage (λ e. omega (arith, e)) (λ e. omega (arith, e)) ends;

@@ -20,3 +20,7 @@ pub data HasCause (command : Command) (words_lead : Answer → Type 0) (input_le
   long : command ≡ WithInput → TookTooMany source → HasCause command words_lead input_leads source Long
   of_input : (answer : Answer) → command ≡ WithInput → TookAll source (λ bytes. input_leads bytes answer) → HasCause command words_lead input_leads source (Answered answer)
   of_words : (answer : Answer) → command ≡ WithoutInput → IsUntouched source → words_lead answer → HasCause command words_lead input_leads source (Answered answer)
+
+-- where the words ask for no answer to an input, the source is as it was
+abbrev pub KeptWithoutInput : {A : Type 0} → Command → A → A → Type 0
+KeptWithoutInput command old new = (command ≡ WithInput → ⊥) → new ≡ old

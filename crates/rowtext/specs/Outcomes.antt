@@ -13,22 +13,22 @@ pub data Wrote (reply : Reply) (status : ℕ) (sink : Change) : Type 0 where
   whole : status ≡ reply_status reply → Gained sink (reply_text reply) → Wrote reply status sink
   cut : status ≡ 6 → HasFailed sink → (prefix : List ℕ) → IsProperPrefix prefix (reply_text reply) → Gained sink prefix → Wrote reply status sink
 
--- A reply that has its cause was written, or memory ran out before the first write.
-pub data Ends (cause : Reply → Type 0) (status : ℕ) (sink : Change) : Type 0 where
-  wrote : (reply : Reply) → cause reply → Wrote reply status sink → Ends cause status sink
-  memory : status ≡ 4 → IsUntouched sink → Ends cause status sink
+-- A reply that has its cause was written, or memory ran out before the first write, and this is true of the source.
+pub data Ends (cause : Reply → Type 0) (kept : Type 0) (status : ℕ) (sink : Change) : Type 0 where
+  wrote : (reply : Reply) → cause reply → Wrote reply status sink → Ends cause kept status sink
+  memory : status ≡ 4 → kept → IsUntouched sink → Ends cause kept status sink
 
 -- the reply has its cause, and its whole text was written
 abbrev pub Did : (Reply → Type 0) → Change → Reply → Type 0
 Did cause sink reply = cause reply × Gained sink (reply_text reply)
 
 -- What each status says.
-pub record ByStatus (cause : Reply → Type 0) (status : ℕ) (sink : Change) : Type 0 where
+pub record ByStatus (cause : Reply → Type 0) (kept : Type 0) (status : ℕ) (sink : Change) : Type 0 where
   pub is_printed : status ≡ 0 → (text : List ℕ) × cause (Answered (Printed text)) × Gained sink text
   pub is_usage : status ≡ 1 → Did cause sink Usage
   pub is_form : status ≡ 2 → Did cause sink (Answered Form)
   pub is_fault : status ≡ 3 → (text : List ℕ) × cause (Answered (Fault text)) × Gained sink text
-  pub is_memory : status ≡ 4 → IsUntouched sink
+  pub is_memory : status ≡ 4 → kept × IsUntouched sink
   pub is_unread : status ≡ 5 → Did cause sink Unread
   pub is_cut : status ≡ 6 → (reply : Reply) × cause reply × HasFailed sink × (prefix : List ℕ) × IsProperPrefix prefix (reply_text reply) × Gained sink prefix
   pub is_long : status ≡ 7 → Did cause sink Long

@@ -1,7 +1,7 @@
 // One way for every top call: read, answer, write.
 ghost use Rattle.std.specs.Prelude.{◌≡◌, ◌≤◌, ℕ, List, map, string_bytes, IfOk};
 ghost use Rattle.rowtext.specs.Changes.{change};
-ghost use Rattle.rowtext.specs.Causes.{HasCause};
+ghost use Rattle.rowtext.specs.Causes.{HasCause, KeptWithoutInput};
 ghost use Rattle.rowtext.specs.Outcomes.{Ends};
 
 use crate::reply::write_reply;
@@ -91,6 +91,7 @@ fn reply_of<E, C: TopCall<E>, S: Source>(
         (C.words_lead call.now engine.old engine.new (map string_bytes words.now))
         (C.input_leads call.now engine.old engine.new (map string_bytes words.now))
         (change S.left S.faults source.old source.new) reply) }
+    ensures kept { KeptWithoutInput (C.command call.now (map string_bytes words.now)) source.old source.new }
     ensures no_lower { S.faults source.old ≤ S.faults source.new }
 {
     match call.command(words) {
@@ -119,7 +120,10 @@ pub fn conduct<E, C: TopCall<E>, S: Source, K: Sink>(
         (C.words_lead call.now engine.old engine.new (map string_bytes words.now))
         (C.input_leads call.now engine.old engine.new (map string_bytes words.now))
         (change S.left S.faults source.old source.new))
+        (KeptWithoutInput (C.command call.now (map string_bytes words.now)) source.old source.new)
         result (change K.held K.faults sink.old sink.new) }
+    // Words that ask for no answer to an input leave the source as it was, also where memory runs out.
+    ensures kept { KeptWithoutInput (C.command call.now (map string_bytes words.now)) source.old source.new }
     ensures source_faults { S.faults source.old ≤ S.faults source.new }
     ensures sink_faults { K.faults sink.old ≤ K.faults sink.new }
 {
