@@ -1,7 +1,8 @@
 // The text of a column. Where numbers of 64 bits are stored for the rows they are lent once, and of any other layout each row is
 // read as a scalar: both give the rows as the array's own calls state them.
-ghost use Rattle.std.specs.Prelude.{◌≡◌, ◌++◌, ◌<◌, length, true, option_map, IfOk, IfSome, OnOk};
+ghost use Rattle.std.specs.Prelude.{◌≡◌, ◌++◌, ◌<◌, length, true, option_map, IfErr, IfOk, IfSome, OnOk};
 ghost use Rattle.std.specs.List.{flat_map};
+ghost use Rattle.coltypes.specs.declared.fault.Fault.TheVariants.{Memory};
 ghost use Rattle.coltypes.specs.declared.dtype.PType.TheVariants.{I64};
 ghost use Rattle.coltypes.specs.declared.dtype.Nullability.TheVariants.{Nullable};
 ghost use Rattle.coltypes.specs.Cell.{number};
@@ -11,7 +12,7 @@ ghost use Rattle.coltypes.specs.Scalars.{scalar_cell, scalar_type};
 ghost use Rattle.rowjson.specs.Text.{text, line, cell_text, is_printed};
 ghost use Rattle.rowjson.specs.Shows.{Shows, unnamed};
 
-use colbase::{ArrayRef, ExecutionCtx, PrimitiveValues, Scalar, ScalarValue};
+use colbase::{ArrayRef, ExecutionCtx, PrimitiveValues, Res, Scalar, ScalarValue};
 use std::alloc::AllocError;
 use types::push_type_line;
 
@@ -103,26 +104,21 @@ fn number_of(scalar: &Scalar) -> Option<i128>
 }
 
 /// The number or null of a row, read as a scalar.
-fn scalar_number(
-    array: &ArrayRef,
-    index: usize,
-    ctx: ExecutionCtx,
-) -> Result<Option<i128>, AllocError>
+fn scalar_number(array: &ArrayRef, index: usize, ctx: ExecutionCtx) -> Res<Option<i128>>
     requires printed { is_printed (dtype array.now) ≡ true }
     requires within { index < len array.now }
-    ensures { IfOk result (λ cell. option_map number cell ≡ row array.now index) }
+    ensures cell { IfOk result (λ cell. option_map number cell ≡ row array.now index) }
+    ensures errors { IfErr result (λ e. e ≡ Memory) }
 {
-    // Memory alone can be wanting.
-    match array.scalar_at(index, ctx) {
-        Ok(scalar) => Ok(number_of(&scalar)),
-        Err(_) => Err(AllocError),
-    }
+    let scalar = array.scalar_at(index, ctx)?;
+    Ok(number_of(&scalar))
 }
 
 /// Appends a line for each row, each read as a scalar.
-fn push_scalars(out: &mut Vec<u8>, array: &ArrayRef, ctx: ExecutionCtx) -> Result<(), AllocError>
+fn push_scalars(out: &mut Vec<u8>, array: &ArrayRef, ctx: ExecutionCtx) -> Res<()>
     requires { is_printed (dtype array.now) ≡ true }
-    ensures { OnOk result (out.new.items ≡ out.old.items ++ flat_map (λ cell. line (cell_text (dtype array.now) cell)) (rows array.now)) }
+    ensures lines { OnOk result (out.new.items ≡ out.old.items ++ flat_map (λ cell. line (cell_text (dtype array.now) cell)) (rows array.now)) }
+    ensures errors { IfErr result (λ e. e ≡ Memory) }
 {
     for i in 0..array.len() {
         push_wide_line(out, scalar_number(array, i, ctx)?)?;
@@ -131,20 +127,22 @@ fn push_scalars(out: &mut Vec<u8>, array: &ArrayRef, ctx: ExecutionCtx) -> Resul
 }
 
 /// Appends a line for each row.
-fn push_rows(out: &mut Vec<u8>, array: &ArrayRef, ctx: ExecutionCtx) -> Result<(), AllocError>
+fn push_rows(out: &mut Vec<u8>, array: &ArrayRef, ctx: ExecutionCtx) -> Res<()>
     requires { is_printed (dtype array.now) ≡ true }
-    ensures { OnOk result (out.new.items ≡ out.old.items ++ flat_map (λ cell. line (cell_text (dtype array.now) cell)) (rows array.now)) }
+    ensures lines { OnOk result (out.new.items ≡ out.old.items ++ flat_map (λ cell. line (cell_text (dtype array.now) cell)) (rows array.now)) }
+    ensures errors { IfErr result (λ e. e ≡ Memory) }
 {
     match stored_numbers(array) {
-        Some(values) => push_stored(out, array, values),
+        Some(values) => Ok(push_stored(out, array, values)?),
         None => push_scalars(out, array, ctx),
     }
 }
 
 /// The text of a column of numbers of 64 bits, or of an extension over such, of any layout: its type's line, and a line for each row.
-pub fn text_of(array: &ArrayRef, ctx: ExecutionCtx) -> Result<Vec<u8>, AllocError>
+pub fn text_of(array: &ArrayRef, ctx: ExecutionCtx) -> Res<Vec<u8>>
     requires { is_printed (dtype array.now) ≡ true }
-    ensures { IfOk result (λ v. v.items ≡ text (column array.now)) }
+    ensures printed { IfOk result (λ v. v.items ≡ text (column array.now)) }
+    ensures errors { IfErr result (λ e. e ≡ Memory) }
 {
     let room = array.len().saturating_mul(ROOM_PER_ROW);
     let mut out = Vec::with_capacity(ctx.alloc(), room)?;
