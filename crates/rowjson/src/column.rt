@@ -9,6 +9,7 @@ mod boolean;
 mod constant;
 mod extension;
 mod masked;
+mod native_integers;
 mod primitive;
 mod scalars;
 mod types;

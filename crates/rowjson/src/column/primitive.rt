@@ -1,4 +1,5 @@
-// Columns of whole numbers, with one impl of `ColumnValue` for each of the eight types: impls that a macro writes are refused.
+// Columns of whole numbers, by one impl of `ColumnValue` for the eight integer types.
+ghost use Rattle.std.specs.Prelude.{◌≡◌};
 ghost use Rattle.serde_json.specs.View.{view, items_view};
 ghost use Rattle.colbase.specs.Arrays.{primitive};
 ghost use Rattle.rowjson.specs.Columns.{laid_out, integer_array, primitive_in};
@@ -13,16 +14,47 @@ use colbase::{
 };
 use serde_json::Value;
 
-/// The array of numbers with a validity.
-fn numbers_with<T: NativeInt>(
-    values: Vec<T>,
-    validity: Validity,
-    ctx: ExecutionCtx,
-) -> Result<ArrayRef, Stop>
-    ensures { Gives (λ a. a) result (laid_out (λ xs v. primitive (T.stored xs) v) values.items validity) }
-{
-    let values = Buffer::from_vec(values, ctx)?;
-    Ok(PrimitiveArray::try_new(values, validity, ctx)?)
+/// An integer type whose values a column lists.
+pub(super) trait ColumnInt: NativeInt {
+    ghost use Rattle.std.specs.Prelude.{◌≡◌, Option};
+    ghost use Rattle.serde_json.specs.Data.{Data};
+    ghost use Rattle.serde_json.specs.View.{view};
+
+    // The number of the type that is stated.
+    ghost number_in: { Data → Option Self };
+
+    ghost zero: { Self };
+
+    fn number_in(value: &Value) -> Option<Self>
+        ensures { result ≡ number_in (view value.now) };
+
+    fn zero() -> Self
+        ensures { result ≡ zero };
+}
+
+impl<T: ColumnInt> ColumnValue for T {
+    ghost use Rattle.colbase.specs.Arrays.{primitive};
+
+    ghost states = { T.number_in };
+
+    ghost under_null = { T.zero };
+
+    ghost layout = { λ xs v. primitive (T.stored xs) v };
+
+    fn read(value: &Value) -> Option<T> {
+        T::number_in(value)
+    }
+
+    fn under_null() -> T {
+        T::zero()
+    }
+
+    fn array(values: Vec<T>, validity: Validity, ctx: ExecutionCtx) -> Result<ArrayRef, Stop>
+        ensures { Gives (λ a. a) result (laid_out (λ xs v. primitive (T.stored xs) v) values.items validity) }
+    {
+        let values = Buffer::from_vec(values, ctx)?;
+        Ok(PrimitiveArray::try_new(values, validity, ctx)?)
+    }
 }
 
 /// The array of whole numbers of an integer type.
@@ -60,232 +92,4 @@ pub(super) fn primitive_in(value: &Value, ctx: ExecutionCtx) -> Result<ArrayRef,
         return Err(Stop::NoBatch);
     }
     integer_array(ptype, items, nullability, valid, ctx)
-}
-
-impl ColumnValue for i8 {
-    ghost use Rattle.std.specs.Prelude.{pos};
-    ghost use Rattle.colbase.specs.Arrays.{primitive};
-    ghost use Rattle.coltypes.specs.declared.dtype.PType.TheVariants as ptype;
-    ghost use Rattle.coltypes.specs.declared.values.PrimitiveValues.TheVariants.{I8};
-    ghost use Rattle.rowjson.specs.Columns.{signed_value};
-
-    ghost states = { signed_value ptype.I8 };
-
-    ghost under_null = { pos 0 };
-
-    ghost layout = { λ xs v. primitive (I8 xs) v };
-
-    #[tactic(auto, unfolding(crate::specs::Columns::signed_value))]
-    fn read(value: &Value) -> Option<i8> {
-        i8::try_from(value.as_i64()?).ok()
-    }
-
-    fn under_null() -> i8 {
-        0
-    }
-
-    fn array(values: Vec<i8>, validity: Validity, ctx: ExecutionCtx) -> Result<ArrayRef, Stop>
-        ensures { Gives (λ a. a) result (laid_out (λ xs v. primitive (I8 xs) v) values.items validity) }
-    {
-        numbers_with(values, validity, ctx)
-    }
-}
-
-impl ColumnValue for i16 {
-    ghost use Rattle.std.specs.Prelude.{pos};
-    ghost use Rattle.colbase.specs.Arrays.{primitive};
-    ghost use Rattle.coltypes.specs.declared.dtype.PType.TheVariants as ptype;
-    ghost use Rattle.coltypes.specs.declared.values.PrimitiveValues.TheVariants.{I16};
-    ghost use Rattle.rowjson.specs.Columns.{signed_value};
-
-    ghost states = { signed_value ptype.I16 };
-
-    ghost under_null = { pos 0 };
-
-    ghost layout = { λ xs v. primitive (I16 xs) v };
-
-    #[tactic(auto, unfolding(crate::specs::Columns::signed_value))]
-    fn read(value: &Value) -> Option<i16> {
-        i16::try_from(value.as_i64()?).ok()
-    }
-
-    fn under_null() -> i16 {
-        0
-    }
-
-    fn array(values: Vec<i16>, validity: Validity, ctx: ExecutionCtx) -> Result<ArrayRef, Stop>
-        ensures { Gives (λ a. a) result (laid_out (λ xs v. primitive (I16 xs) v) values.items validity) }
-    {
-        numbers_with(values, validity, ctx)
-    }
-}
-
-impl ColumnValue for i32 {
-    ghost use Rattle.std.specs.Prelude.{pos};
-    ghost use Rattle.colbase.specs.Arrays.{primitive};
-    ghost use Rattle.coltypes.specs.declared.dtype.PType.TheVariants as ptype;
-    ghost use Rattle.coltypes.specs.declared.values.PrimitiveValues.TheVariants.{I32};
-    ghost use Rattle.rowjson.specs.Columns.{signed_value};
-
-    ghost states = { signed_value ptype.I32 };
-
-    ghost under_null = { pos 0 };
-
-    ghost layout = { λ xs v. primitive (I32 xs) v };
-
-    #[tactic(auto, unfolding(crate::specs::Columns::signed_value))]
-    fn read(value: &Value) -> Option<i32> {
-        i32::try_from(value.as_i64()?).ok()
-    }
-
-    fn under_null() -> i32 {
-        0
-    }
-
-    fn array(values: Vec<i32>, validity: Validity, ctx: ExecutionCtx) -> Result<ArrayRef, Stop>
-        ensures { Gives (λ a. a) result (laid_out (λ xs v. primitive (I32 xs) v) values.items validity) }
-    {
-        numbers_with(values, validity, ctx)
-    }
-}
-
-impl ColumnValue for i64 {
-    ghost use Rattle.std.specs.Prelude.{pos};
-    ghost use Rattle.colbase.specs.Arrays.{primitive};
-    ghost use Rattle.coltypes.specs.declared.dtype.PType.TheVariants as ptype;
-    ghost use Rattle.coltypes.specs.declared.values.PrimitiveValues.TheVariants.{I64};
-    ghost use Rattle.rowjson.specs.Columns.{signed_value};
-
-    ghost states = { signed_value ptype.I64 };
-
-    ghost under_null = { pos 0 };
-
-    ghost layout = { λ xs v. primitive (I64 xs) v };
-
-    #[tactic(auto, unfolding(crate::specs::Columns::signed_value))]
-    fn read(value: &Value) -> Option<i64> {
-        value.as_i64()
-    }
-
-    fn under_null() -> i64 {
-        0
-    }
-
-    fn array(values: Vec<i64>, validity: Validity, ctx: ExecutionCtx) -> Result<ArrayRef, Stop>
-        ensures { Gives (λ a. a) result (laid_out (λ xs v. primitive (I64 xs) v) values.items validity) }
-    {
-        numbers_with(values, validity, ctx)
-    }
-}
-
-impl ColumnValue for u8 {
-    ghost use Rattle.colbase.specs.Arrays.{primitive};
-    ghost use Rattle.coltypes.specs.declared.dtype.PType.TheVariants as ptype;
-    ghost use Rattle.coltypes.specs.declared.values.PrimitiveValues.TheVariants.{U8};
-    ghost use Rattle.rowjson.specs.Columns.{unsigned_value};
-
-    ghost states = { unsigned_value ptype.U8 };
-
-    ghost under_null = { 0 };
-
-    ghost layout = { λ xs v. primitive (U8 xs) v };
-
-    #[tactic(auto, unfolding(crate::specs::Columns::unsigned_value))]
-    fn read(value: &Value) -> Option<u8> {
-        u8::try_from(value.as_u64()?).ok()
-    }
-
-    fn under_null() -> u8 {
-        0
-    }
-
-    fn array(values: Vec<u8>, validity: Validity, ctx: ExecutionCtx) -> Result<ArrayRef, Stop>
-        ensures { Gives (λ a. a) result (laid_out (λ xs v. primitive (U8 xs) v) values.items validity) }
-    {
-        numbers_with(values, validity, ctx)
-    }
-}
-
-impl ColumnValue for u16 {
-    ghost use Rattle.colbase.specs.Arrays.{primitive};
-    ghost use Rattle.coltypes.specs.declared.dtype.PType.TheVariants as ptype;
-    ghost use Rattle.coltypes.specs.declared.values.PrimitiveValues.TheVariants.{U16};
-    ghost use Rattle.rowjson.specs.Columns.{unsigned_value};
-
-    ghost states = { unsigned_value ptype.U16 };
-
-    ghost under_null = { 0 };
-
-    ghost layout = { λ xs v. primitive (U16 xs) v };
-
-    #[tactic(auto, unfolding(crate::specs::Columns::unsigned_value))]
-    fn read(value: &Value) -> Option<u16> {
-        u16::try_from(value.as_u64()?).ok()
-    }
-
-    fn under_null() -> u16 {
-        0
-    }
-
-    fn array(values: Vec<u16>, validity: Validity, ctx: ExecutionCtx) -> Result<ArrayRef, Stop>
-        ensures { Gives (λ a. a) result (laid_out (λ xs v. primitive (U16 xs) v) values.items validity) }
-    {
-        numbers_with(values, validity, ctx)
-    }
-}
-
-impl ColumnValue for u32 {
-    ghost use Rattle.colbase.specs.Arrays.{primitive};
-    ghost use Rattle.coltypes.specs.declared.dtype.PType.TheVariants as ptype;
-    ghost use Rattle.coltypes.specs.declared.values.PrimitiveValues.TheVariants.{U32};
-    ghost use Rattle.rowjson.specs.Columns.{unsigned_value};
-
-    ghost states = { unsigned_value ptype.U32 };
-
-    ghost under_null = { 0 };
-
-    ghost layout = { λ xs v. primitive (U32 xs) v };
-
-    #[tactic(auto, unfolding(crate::specs::Columns::unsigned_value))]
-    fn read(value: &Value) -> Option<u32> {
-        u32::try_from(value.as_u64()?).ok()
-    }
-
-    fn under_null() -> u32 {
-        0
-    }
-
-    fn array(values: Vec<u32>, validity: Validity, ctx: ExecutionCtx) -> Result<ArrayRef, Stop>
-        ensures { Gives (λ a. a) result (laid_out (λ xs v. primitive (U32 xs) v) values.items validity) }
-    {
-        numbers_with(values, validity, ctx)
-    }
-}
-
-impl ColumnValue for u64 {
-    ghost use Rattle.colbase.specs.Arrays.{primitive};
-    ghost use Rattle.coltypes.specs.declared.dtype.PType.TheVariants as ptype;
-    ghost use Rattle.coltypes.specs.declared.values.PrimitiveValues.TheVariants.{U64};
-    ghost use Rattle.rowjson.specs.Columns.{unsigned_value};
-
-    ghost states = { unsigned_value ptype.U64 };
-
-    ghost under_null = { 0 };
-
-    ghost layout = { λ xs v. primitive (U64 xs) v };
-
-    #[tactic(auto, unfolding(crate::specs::Columns::unsigned_value))]
-    fn read(value: &Value) -> Option<u64> {
-        value.as_u64()
-    }
-
-    fn under_null() -> u64 {
-        0
-    }
-
-    fn array(values: Vec<u64>, validity: Validity, ctx: ExecutionCtx) -> Result<ArrayRef, Stop>
-        ensures { Gives (λ a. a) result (laid_out (λ xs v. primitive (U64 xs) v) values.items validity) }
-    {
-        numbers_with(values, validity, ctx)
-    }
 }

@@ -1,7 +1,7 @@
 use Rattle.std.proofs.Common.{rules, w64, Fits}
 use Rattle.std.specs.Prelude.{MatchOption}
 use Rattle.rowjson.proofs.Ranges.{unsigned_whole}
-use Rattle.rowjson.proofs.column.primitive.U64ColumnValue.read.Goals as goal
+use Rattle.rowjson.proofs.column.native_integers.U64ColumnInt.number_in.Goals as goal
 
 pub returns : goal.returns
 returns c =

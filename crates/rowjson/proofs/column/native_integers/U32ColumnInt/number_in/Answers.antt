@@ -1,7 +1,7 @@
 use Rattle.std.proofs.Common.{sym, ◌∙◌}
 use Rattle.coltypes.specs.declared.dtype.PType.TheVariants as ptype
 use Rattle.rowjson.proofs.Ranges.{fits_bits, unsigned_read}
-use Rattle.rowjson.proofs.column.primitive.U32ColumnValue.read.Goals as goal
+use Rattle.rowjson.proofs.column.native_integers.U32ColumnInt.number_in.Goals as goal
 
 pub returns : goal.returns
 returns c =

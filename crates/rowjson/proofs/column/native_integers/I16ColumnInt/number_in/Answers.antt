@@ -2,7 +2,7 @@ use Rattle.std.proofs.Common.{rules, w16, w64, SFits, ◌∙◌, sym}
 use Rattle.std.proofs.lemmas.Int.{to_z-of_z}
 use Rattle.coltypes.specs.declared.dtype.PType.TheVariants as ptype
 use Rattle.rowjson.proofs.Ranges.{fits_decides, signed_read}
-use Rattle.rowjson.proofs.column.primitive.I16ColumnValue.read.Goals as goal
+use Rattle.rowjson.proofs.column.native_integers.I16ColumnInt.number_in.Goals as goal
 
 pub returns : goal.returns
 returns c =

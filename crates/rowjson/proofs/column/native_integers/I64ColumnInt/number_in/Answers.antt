@@ -1,7 +1,7 @@
 use Rattle.std.proofs.Common.{rules, w64, SFits}
 use Rattle.std.specs.Prelude.{MatchOption}
 use Rattle.rowjson.proofs.Ranges.{signed_whole}
-use Rattle.rowjson.proofs.column.primitive.I64ColumnValue.read.Goals as goal
+use Rattle.rowjson.proofs.column.native_integers.I64ColumnInt.number_in.Goals as goal
 
 pub returns : goal.returns
 returns c =
