@@ -13,4 +13,6 @@ mod owner_tests;
 #[cfg(test)]
 mod scalar_tests;
 #[cfg(test)]
+mod text_tests;
+#[cfg(test)]
 mod type_tests;
