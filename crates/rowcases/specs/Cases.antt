@@ -2,12 +2,13 @@
 use Rattle.std.proofs.Common.{arith}
 use native.Mathlib.Nat.{mod-lt, zero-lt-suc}
 use Rattle.std.proofs.lemmas.Nat.{le_or_l, le_or_r}
-use Rattle.std.specs.Prelude.{◌≡◌, false, int_lt, refl, zero, suc, ℕ, ◌<◌, ◌%◌, bit_or, Option, None, Some, List, [], ◌∷◌, nat_lt, pos, Bool}
+use Rattle.std.specs.Prelude.{◌≡◌, false, int_lt, refl, zero, suc, ℕ, ◌<◌, ◌%◌, bit_or, Option, None, Some, List, [], ◌∷◌, pos}
 use Rattle.coltypes.specs.Cell.{Cell, number, truth}
-use Rattle.coltypes.specs.LogicalType.{LogicalType, extension, primitive}
+use Rattle.coltypes.specs.LogicalType.{LogicalType, bool, extension, primitive}
 use Rattle.coltypes.specs.declared.dtype.Nullability.TheVariants.{NonNullable}
-use Rattle.coltypes.specs.declared.dtype.PType.TheVariants.{I32}
-use Rattle.rowplan.specs.Outcomes.{FinishLaws, Outcome, done}
+use Rattle.coltypes.specs.declared.dtype.PType.TheVariants.{I32, U8}
+use Rattle.rowplan.specs.Constructors.{Stored}
+use Rattle.rowplan.specs.Outcomes.{FinishLaws}
 
 abbrev pub first_cell : List Cell → Cell
 first_cell [] = truth false
@@ -29,13 +30,16 @@ abbrev pub only_number : List Cell → ℕ
 only_number (number (pos n) ∷ []) = n
 only_number _ = 0
 
--- whether the number is below 5, and evidence where it is above 9
-abbrev pub small : List Cell → Outcome Bool
-small cells = done (truth (nat_lt (only_number cells) 5)) (nat_lt 9 (only_number cells))
+-- a number of 8 bits, as it is; no other cells are read
+abbrev pub flag : List Cell → Cell
+flag cells = number (pos (only_number cells))
 
--- a number of 8 bits, which is its own evidence; no other cells are read
-abbrev pub flagged : List Cell → Outcome ℕ
-flagged cells = done (number (pos (only_number cells))) (only_number cells % 256)
+-- outputs of 8 bits and of truth values
+abbrev pub u8_stored : Stored
+u8_stored = record { type = primitive U8 NonNullable; placeholder = number (pos 0) }
+
+abbrev pub bool_stored : Stored
+bool_stored = record { type = bool NonNullable; placeholder = truth false }
 
 pub below_256 : (n : ℕ) → n % 256 < 256
 below_256 n = mod-lt n (zero-lt-suc 255)

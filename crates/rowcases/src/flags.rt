@@ -1,12 +1,12 @@
 // A function by a deferred visit whose evidence is a number: the bits that are set in some row, joined, are told as the error,
 // so that a test sees which rows were joined.
-ghost use Rattle.std.specs.Prelude.{◌≡◌, ◌⊎◌, true, false, length, Option, IfOk, IfErr, IfSome, Err, is_some};
+ghost use Rattle.std.specs.Prelude.{◌≡◌, ◌⊎◌, false, Err};
 ghost use Rattle.rowplan.specs.Outcomes.{judged};
 ghost use Rattle.rowcases.specs.Cases.{flags_told};
 
 use crate::calls::Calls;
-use colbase::{DType, EmptyOptions, ExecutionCtx, Fault, Res, RowError};
-use rowplan::{RowFn, RowSpec, RowVisitor};
+use colbase::{DType, EmptyOptions, ExecutionCtx, Res, RowError};
+use rowplan::{NoForm, RowFn, RowSpec, RowVisitor};
 
 /// One number of 8 bits, which is the answer and the evidence of its row: the bits that are set in some row are told as the
 /// error. It counts the calls of its callback.
@@ -14,6 +14,8 @@ use rowplan::{RowFn, RowSpec, RowVisitor};
 pub struct Flags {
     calls: Calls,
 }
+
+const NAMES: &'static [&'static str] = &["value"];
 
 impl Flags {
     pub fn new() -> Flags {
@@ -29,82 +31,40 @@ impl Flags {
 }
 
 impl RowSpec for Flags {
-    ghost use Rattle.std.specs.Prelude.{◌≡◌, ◌<◌, true, false, None, Some, pos, refl};
-    ghost use Rattle.coltypes.specs.Cell.{number};
-    ghost use Rattle.coltypes.specs.LogicalType.{primitive};
-    ghost use Rattle.coltypes.specs.declared.dtype.Nullability.TheVariants.{NonNullable};
-    ghost use Rattle.coltypes.specs.declared.dtype.PType.TheVariants as ptype;
-    ghost use Rattle.rowcases.specs.Cases.{below_256, flagged, flags_finish, flags_told};
-    ghost use Rattle.rowsample.specs.Functions.{false_is_true, true_is_false};
-    ghost use Rattle.rowcases.specs.Cases.{only_number};
+    ghost use Rattle.std.specs.Prelude.{false, map};
+    ghost use Rattle.std.specs.Prelude.{bit_or, ◌%◌};
+    ghost use Rattle.rowplan.specs.Constructors.{by_evidence, evidence_is_lawful};
     ghost use Rattle.rowplan.specs.declared.batch_plan.RowPolicy.TheVariants.{DenseWithRetry};
+    ghost use Rattle.rowcases.specs.Cases.{below_256, flag, flags_finish, flags_told, only_number, u8_stored};
+    ghost use Rattle.rowcases.specs.declared.flags.TheConstants.{NAMES as names};
 
     type Options = EmptyOptions;
 
+    type Form = NoForm;
+
     type Evidence = u8;
 
-    const ARG_NAMES: &'static [&'static str] = &["value"];
+    const ARG_NAMES: &'static [&'static str] = NAMES;
 
     const INFALLIBLE: bool = false;
 
-    ghost arity = { 1 };
-
     ghost INFALLIBLE = { false };
 
-    ghost accepts = { λ o t. true };
+    ghost names = { map (λ name. name.now) names.now };
 
-    ghost fits = { λ o t. ⟦<(u8,) as rowtypes::ElementTuple>⟧.accepts };
+    ghost law = { λ o t. by_evidence bit_or 0 flags_told 1 ⟦<(u8,) as rowtypes::ElementTuple>⟧.elements DenseWithRetry u8_stored flag
+        (λ cells. only_number cells % 256) };
 
-    ghost reads = { λ o t. ⟦<(u8,) as rowtypes::ElementTuple>⟧.reads };
-
-    ghost shown = { λ o t. ⟦<(u8,) as rowtypes::ElementTuple>⟧.shown };
-
-    ghost output = { λ o t. record { storage = Some (primitive ptype.U8 NonNullable); label = None } };
-
-    ghost room = { λ o t n. true };
-
-    ghost placeholder = { λ o t. number (pos 0) };
-
-    ghost policy = { λ o t. DenseWithRetry };
-
-    ghost deferred = { λ o t. true };
-
-    ghost meaning = { λ o t. flagged };
-
-    ghost finish = { flags_told };
-
-    ghost has_form = { false };
-
-    ghost states_options = { λ bytes o. ⊥ };
-
-    ghost finish_laws = { flags_finish };
-
-    ghost room_falls = { λ o t n m le h. refl };
-
-    ghost evidence_in_range = { λ o t cells. below_256 (only_number cells) };
-
-    ghost no_evidence = { λ o t cells h. true_is_false h };
-
-    ghost no_error = { λ o t cells h. tt };
-
-    ghost infallible = { λ o t cells h. false_is_true h };
+    ghost lawful = { λ o t. evidence_is_lawful flags_finish (λ cells. below_256 (only_number cells)) };
 
     fn names_of_arguments() -> &'static [&'static str] {
-        &["value"]
+        Self::ARG_NAMES
     }
 }
 
 impl RowFn for Flags {
     fn id(&self) -> &'static str {
         "flags"
-    }
-
-    fn serialize(&self, _options: &EmptyOptions, _ctx: ExecutionCtx) -> Res<Option<Vec<u8>>> {
-        Ok(None)
-    }
-
-    fn deserialize(&self, _metadata: &[u8], _ctx: ExecutionCtx) -> Res<EmptyOptions> {
-        Err(Fault::NotSerializable)
     }
 
     fn dispatch<V: RowVisitor<Flags>>(

@@ -1,10 +1,10 @@
 // A function of truth values by `visit_bool`, whose loop packs bits.
-ghost use Rattle.std.specs.Prelude.{◌≡◌, ◌⊎◌, true, false, length, Option, IfOk, IfErr, IfSome, Err, is_some};
+ghost use Rattle.std.specs.Prelude.{◌≡◌, ◌⊎◌, true};
 
 use crate::calls::Calls;
 use bitlane::NoFailure;
-use colbase::{DType, EmptyOptions, ExecutionCtx, Fault, Res};
-use rowplan::{RowFn, RowSpec, RowVisitor};
+use colbase::{DType, EmptyOptions, ExecutionCtx, Res};
+use rowplan::{NoForm, RowFn, RowSpec, RowVisitor};
 
 /// Whether the first of two numbers is below the second, by either collector. It counts the calls of its callback.
 #[derive(Drop)]
@@ -12,6 +12,8 @@ pub struct Ordered {
     multiversioned: bool,
     calls: Calls,
 }
+
+const NAMES: &'static [&'static str] = &["lhs", "rhs"];
 
 impl Ordered {
     pub fn new(multiversioned: bool) -> Ordered {
@@ -28,64 +30,29 @@ impl Ordered {
 }
 
 impl RowSpec for Ordered {
-    ghost use Rattle.std.specs.Prelude.{◌≡◌, true, false, None, Some, refl};
-    ghost use Rattle.coltypes.specs.Cell.{truth};
-    ghost use Rattle.coltypes.specs.LogicalType.{bool};
-    ghost use Rattle.coltypes.specs.declared.dtype.Nullability.TheVariants.{NonNullable};
-    ghost use Rattle.rowplan.specs.Outcomes.{done};
-    ghost use Rattle.rowcases.specs.Cases.{ordered};
-    ghost use Rattle.rowsample.specs.Functions.{never_refused, never_finishes};
+    ghost use Rattle.std.specs.Prelude.{true, map};
+    ghost use Rattle.rowplan.specs.Constructors.{total, total_is_lawful};
     ghost use Rattle.rowplan.specs.declared.batch_plan.RowPolicy.TheVariants.{Dense};
+    ghost use Rattle.rowcases.specs.Cases.{bool_stored, ordered};
+    ghost use Rattle.rowcases.specs.declared.ordered.TheConstants.{NAMES as names};
 
     type Options = EmptyOptions;
 
+    type Form = NoForm;
+
     type Evidence = NoFailure;
 
-    const ARG_NAMES: &'static [&'static str] = &["lhs", "rhs"];
+    const ARG_NAMES: &'static [&'static str] = NAMES;
 
     const INFALLIBLE: bool = true;
 
-    ghost arity = { 2 };
-
     ghost INFALLIBLE = { true };
 
-    ghost accepts = { λ o t. true };
+    ghost names = { map (λ name. name.now) names.now };
 
-    ghost fits = { λ o t. ⟦<(i64, i64) as rowtypes::ElementTuple>⟧.accepts };
+    ghost law = { λ o t. total 2 ⟦<(i64, i64) as rowtypes::ElementTuple>⟧.elements Dense bool_stored ordered };
 
-    ghost reads = { λ o t. ⟦<(i64, i64) as rowtypes::ElementTuple>⟧.reads };
-
-    ghost shown = { λ o t. ⟦<(i64, i64) as rowtypes::ElementTuple>⟧.shown };
-
-    ghost output = { λ o t. record { storage = Some (bool NonNullable); label = None } };
-
-    ghost room = { λ o t n. true };
-
-    ghost placeholder = { λ o t. truth false };
-
-    ghost policy = { λ o t. Dense };
-
-    ghost deferred = { λ o t. false };
-
-    ghost meaning = { λ o t cells. done (ordered cells) (record {}) };
-
-    ghost finish = { never_refused };
-
-    ghost has_form = { false };
-
-    ghost states_options = { λ bytes o. ⊥ };
-
-    ghost finish_laws = { never_finishes };
-
-    ghost room_falls = { λ o t n m le h. refl };
-
-    ghost evidence_in_range = { λ o t cells. tt };
-
-    ghost no_evidence = { λ o t cells h. refl };
-
-    ghost no_error = { λ o t cells h. tt };
-
-    ghost infallible = { λ o t cells h. refl };
+    ghost lawful = { λ o t. total_is_lawful _ _ _ _ _ _ };
 
     fn names_of_arguments() -> &'static [&'static str] {
         Self::ARG_NAMES
@@ -95,14 +62,6 @@ impl RowSpec for Ordered {
 impl RowFn for Ordered {
     fn id(&self) -> &'static str {
         "ordered"
-    }
-
-    fn serialize(&self, _options: &EmptyOptions, _ctx: ExecutionCtx) -> Res<Option<Vec<u8>>> {
-        Ok(None)
-    }
-
-    fn deserialize(&self, _metadata: &[u8], _ctx: ExecutionCtx) -> Res<EmptyOptions> {
-        Err(Fault::NotSerializable)
     }
 
     fn dispatch<V: RowVisitor<Ordered>>(

@@ -1,16 +1,18 @@
 // A function without arguments, by the plain visit.
-ghost use Rattle.std.specs.Prelude.{◌≡◌, ◌⊎◌, true, false, length, Option, IfOk, IfErr, IfSome, Err, is_some};
+ghost use Rattle.std.specs.Prelude.{◌≡◌, ◌⊎◌, true};
 
 use crate::calls::Calls;
 use bitlane::NoFailure;
-use colbase::{DType, EmptyOptions, ExecutionCtx, Fault, Res};
-use rowplan::{RowFn, RowSpec, RowVisitor};
+use colbase::{DType, EmptyOptions, ExecutionCtx, Res};
+use rowplan::{NoForm, RowFn, RowSpec, RowVisitor};
 
 /// No arguments, and the number 7. It counts the calls of its callback.
 #[derive(Drop)]
 pub struct Seven {
     calls: Calls,
 }
+
+const NAMES: &'static [&'static str] = &[];
 
 impl Seven {
     pub fn new() -> Seven {
@@ -26,81 +28,40 @@ impl Seven {
 }
 
 impl RowSpec for Seven {
-    ghost use Rattle.std.specs.Prelude.{◌≡◌, true, false, None, Some, pos, refl};
+    ghost use Rattle.std.specs.Prelude.{true, map};
+    ghost use Rattle.std.specs.Prelude.{pos};
     ghost use Rattle.coltypes.specs.Cell.{number};
-    ghost use Rattle.coltypes.specs.LogicalType.{primitive};
-    ghost use Rattle.coltypes.specs.declared.dtype.Nullability.TheVariants.{NonNullable};
-    ghost use Rattle.coltypes.specs.declared.dtype.PType.TheVariants as ptype;
-    ghost use Rattle.rowplan.specs.Outcomes.{done};
-    ghost use Rattle.rowsample.specs.Functions.{never_refused, never_finishes};
+    ghost use Rattle.rowplan.specs.Constructors.{total, total_is_lawful};
     ghost use Rattle.rowplan.specs.declared.batch_plan.RowPolicy.TheVariants.{Dense};
+    ghost use Rattle.rowsample.specs.Functions.{i64_stored};
+    ghost use Rattle.rowcases.specs.declared.seven.TheConstants.{NAMES as names};
 
     type Options = EmptyOptions;
 
+    type Form = NoForm;
+
     type Evidence = NoFailure;
 
-    const ARG_NAMES: &'static [&'static str] = &[];
+    const ARG_NAMES: &'static [&'static str] = NAMES;
 
     const INFALLIBLE: bool = true;
 
-    ghost arity = { 0 };
-
     ghost INFALLIBLE = { true };
 
-    ghost accepts = { λ o t. true };
+    ghost names = { map (λ name. name.now) names.now };
 
-    ghost fits = { λ o t. ⟦<() as rowtypes::ElementTuple>⟧.accepts };
+    ghost law = { λ o t. total 0 ⟦<() as rowtypes::ElementTuple>⟧.elements Dense i64_stored (λ cells. number (pos 7)) };
 
-    ghost reads = { λ o t. ⟦<() as rowtypes::ElementTuple>⟧.reads };
-
-    ghost shown = { λ o t. ⟦<() as rowtypes::ElementTuple>⟧.shown };
-
-    ghost output = { λ o t. record { storage = Some (primitive ptype.I64 NonNullable); label = None } };
-
-    ghost room = { λ o t n. true };
-
-    ghost placeholder = { λ o t. number (pos 0) };
-
-    ghost policy = { λ o t. Dense };
-
-    ghost deferred = { λ o t. false };
-
-    ghost meaning = { λ o t cells. done (number (pos 7)) (record {}) };
-
-    ghost finish = { never_refused };
-
-    ghost has_form = { false };
-
-    ghost states_options = { λ bytes o. ⊥ };
-
-    ghost finish_laws = { never_finishes };
-
-    ghost room_falls = { λ o t n m le h. refl };
-
-    ghost evidence_in_range = { λ o t cells. tt };
-
-    ghost no_evidence = { λ o t cells h. refl };
-
-    ghost no_error = { λ o t cells h. tt };
-
-    ghost infallible = { λ o t cells h. refl };
+    ghost lawful = { λ o t. total_is_lawful _ _ _ _ _ _ };
 
     fn names_of_arguments() -> &'static [&'static str] {
-        &[]
+        Self::ARG_NAMES
     }
 }
 
 impl RowFn for Seven {
     fn id(&self) -> &'static str {
         "seven"
-    }
-
-    fn serialize(&self, _options: &EmptyOptions, _ctx: ExecutionCtx) -> Res<Option<Vec<u8>>> {
-        Ok(None)
-    }
-
-    fn deserialize(&self, _metadata: &[u8], _ctx: ExecutionCtx) -> Res<EmptyOptions> {
-        Err(Fault::NotSerializable)
     }
 
     fn dispatch<V: RowVisitor<Seven>>(

@@ -1,11 +1,11 @@
 // A function of truth values with evidence, by each of the four deferred visits.
-ghost use Rattle.std.specs.Prelude.{◌≡◌, ◌⊎◌, true, false, length, Option, IfOk, IfErr, IfSome, Err, is_some};
+ghost use Rattle.std.specs.Prelude.{◌≡◌, ◌⊎◌, true, false, Option, Err};
 ghost use Rattle.rowplan.specs.Outcomes.{judged};
-ghost use Rattle.rowsample.specs.Functions.{refused_where};
+ghost use Rattle.rowplan.specs.Constructors.{code_where};
 
 use crate::calls::Calls;
-use colbase::{DType, EmptyOptions, ExecutionCtx, Fault, Res, RowError};
-use rowplan::{RowFn, RowSpec, RowVisitor};
+use colbase::{DType, EmptyOptions, ExecutionCtx, Res, RowError};
+use rowplan::{NoForm, RowFn, RowSpec, RowVisitor};
 
 /// Which visit hands over the evidence.
 #[derive(Clone, Copy, Debug)]
@@ -24,6 +24,8 @@ pub struct Small {
     prepares: Calls,
 }
 
+const NAMES: &'static [&'static str] = &["value"];
+
 impl Small {
     pub fn new(visit: Deferral) -> Small {
         Small {
@@ -39,80 +41,41 @@ impl Small {
 }
 
 impl RowSpec for Small {
-    ghost use Rattle.std.specs.Prelude.{◌≡◌, true, false, None, Some, refl};
+    ghost use Rattle.std.specs.Prelude.{false, map};
+    ghost use Rattle.std.specs.Prelude.{nat_lt};
     ghost use Rattle.coltypes.specs.Cell.{truth};
-    ghost use Rattle.coltypes.specs.LogicalType.{bool};
-    ghost use Rattle.coltypes.specs.declared.dtype.Nullability.TheVariants.{NonNullable};
-    ghost use Rattle.rowsample.specs.Functions.{false_is_true, refused_where, refused_where_laws, true_is_false};
-    ghost use Rattle.rowcases.specs.Cases.{small};
+    ghost use Rattle.rowplan.specs.Constructors.{fails_is_lawful, fails_with};
     ghost use Rattle.rowplan.specs.declared.batch_plan.RowPolicy.TheVariants.{DenseWithRetry};
+    ghost use Rattle.rowcases.specs.Cases.{bool_stored, only_number};
+    ghost use Rattle.rowcases.specs.declared.small.TheConstants.{NAMES as names};
 
     type Options = EmptyOptions;
 
+    type Form = NoForm;
+
     type Evidence = bool;
 
-    const ARG_NAMES: &'static [&'static str] = &["value"];
+    const ARG_NAMES: &'static [&'static str] = NAMES;
 
     const INFALLIBLE: bool = false;
 
-    ghost arity = { 1 };
-
     ghost INFALLIBLE = { false };
 
-    ghost accepts = { λ o t. true };
+    ghost names = { map (λ name. name.now) names.now };
 
-    ghost fits = { λ o t. ⟦<(u8,) as rowtypes::ElementTuple>⟧.accepts };
+    ghost law = { λ o t. fails_with 1 1 ⟦<(u8,) as rowtypes::ElementTuple>⟧.elements DenseWithRetry bool_stored
+        (λ cells. truth (nat_lt (only_number cells) 5)) (λ cells. nat_lt 9 (only_number cells)) };
 
-    ghost reads = { λ o t. ⟦<(u8,) as rowtypes::ElementTuple>⟧.reads };
-
-    ghost shown = { λ o t. ⟦<(u8,) as rowtypes::ElementTuple>⟧.shown };
-
-    ghost output = { λ o t. record { storage = Some (bool NonNullable); label = None } };
-
-    ghost room = { λ o t n. true };
-
-    ghost placeholder = { λ o t. truth false };
-
-    ghost policy = { λ o t. DenseWithRetry };
-
-    ghost deferred = { λ o t. true };
-
-    ghost meaning = { λ o t. small };
-
-    ghost finish = { refused_where };
-
-    ghost has_form = { false };
-
-    ghost states_options = { λ bytes o. ⊥ };
-
-    ghost finish_laws = { refused_where_laws };
-
-    ghost room_falls = { λ o t n m le h. refl };
-
-    ghost evidence_in_range = { λ o t cells. tt };
-
-    ghost no_evidence = { λ o t cells h. true_is_false h };
-
-    ghost no_error = { λ o t cells h. tt };
-
-    ghost infallible = { λ o t cells h. false_is_true h };
+    ghost lawful = { λ o t. fails_is_lawful 1 1 _ _ _ _ _ };
 
     fn names_of_arguments() -> &'static [&'static str] {
-        &["value"]
+        Self::ARG_NAMES
     }
 }
 
 impl RowFn for Small {
     fn id(&self) -> &'static str {
         "small"
-    }
-
-    fn serialize(&self, _options: &EmptyOptions, _ctx: ExecutionCtx) -> Res<Option<Vec<u8>>> {
-        Ok(None)
-    }
-
-    fn deserialize(&self, _metadata: &[u8], _ctx: ExecutionCtx) -> Res<EmptyOptions> {
-        Err(Fault::NotSerializable)
     }
 
     fn dispatch<V: RowVisitor<Small>>(
@@ -155,7 +118,7 @@ impl RowFn for Small {
 
 /// The error 1 where some row left evidence.
 fn refuse(failed: bool) -> Result<(), RowError>
-    ensures { result ≡ judged (refused_where failed) }
+    ensures { result ≡ judged (code_where 1 failed) }
 {
     if failed {
         return Err(RowError(1));

@@ -1,5 +1,5 @@
 -- Lists of arguments: their types, their lengths, and what an element of one place or another reads.
-use Rattle.std.proofs.Common.{◌≡◌, ◌∙◌, ℕ, suc, Bool, true, ◌&&◌, List, [], ◌∷◌, ◌++◌, length, Option, None, Some, inl, inr, refl, ap, arith}
+use Rattle.std.proofs.Common.{◌≡◌, ◌∙◌, ℕ, suc, Bool, true, false, ◌&&◌, List, [], ◌∷◌, ◌++◌, length, Option, None, Some, inl, inr, refl, ap, arith}
 use Rattle.std.specs.Prelude.{◌↔◌}
 use Rattle.std.proofs.lemmas.Bool.Decides.{nat_tests}
 use Rattle.colbase.specs.Arrays.{Array, dtype, len}
@@ -9,7 +9,7 @@ use Rattle.coltypes.specs.LogicalTypeOf.{logical_type}
 use Rattle.coltypes.specs.declared.dtype.DType.{DType}
 use Rattle.coltypes.specs.declared.fault.Fault.{Fault}
 use Rattle.rowelems.specs.Reading.{Unread}
-use Rattle.rowtypes.specs.Rows.{logical_types, AcceptsFrom, DecodeFails, FirstUnread, decoded_lengths, each_length, shown_from}
+use Rattle.rowtypes.specs.Rows.{logical_types, AcceptsFrom, DecodeFails, FirstUnread, all_tolerant, decoded_lengths, each_length, shown_from}
 use Rattle.rowelems.specs.Argument.{is_length, length_unless}
 use Rattle.rowelems.specs.Shown.{batch_value}
 use Rattle.rowexec.specs.Rows.{EachHasRows, types_of}
@@ -28,6 +28,10 @@ length_is (Some c) m n e = refl
 
 pub both_are : (a b : Bool) → a ≡ true → b ≡ true → (a && b) ≡ true
 both_are a b p q = cc (p, q)
+
+pub both_parts : (a b : Bool) → (a && b) ≡ true → (a ≡ true) × (b ≡ true)
+both_parts true b h = (refl, h)
+both_parts false b h = absurd (cc)
 
 pub each_decoded : (n : ℕ) (arrays : List Array) → EachHasRows n arrays → each_length n (decoded_lengths arrays) ≡ true
 each_decoded n [] h = refl
@@ -56,3 +60,7 @@ fails_same f g h k arrays e (inr p) = inr (record { place = p.place; is = p.is; 
 pub type_pushed : (types : List DType) (d : DType) (a : Array) (later : List Array) → logical_type d ≡ dtype a → (logical_types (types ++ d ∷ []) ++ types_of later) ≡ (logical_types types ++ types_of (a ∷ later))
 type_pushed [] d a later e = ap (λ t. t ∷ types_of later) e
 type_pushed (t ∷ types) d a later e = ap (λ ts. logical_type t ∷ ts) (type_pushed types d a later e)
+
+pub tolerant_same : (f g : ℕ → Array → Bool) → ((k : ℕ) (a : Array) → f k a ≡ g k a) → (k : ℕ) (arrays : List Array) → all_tolerant f k arrays ≡ all_tolerant g k arrays
+tolerant_same f g h k [] = refl
+tolerant_same f g h k (a ∷ arrays) = cc (h k a, tolerant_same f g h (suc k) arrays)

@@ -1,5 +1,5 @@
 -- Columns that are filtered to the marked rows.
-use Rattle.std.proofs.Common.{◌≡◌, ◌∙◌, ℕ, zero, suc, ◌<◌, Bool, true, false, List, [], ◌∷◌, ◌++◌, length, get_or, Option, None, Result, arith, ◌⊎◌, inl, inr, refl, ap, sym, subst}
+use Rattle.std.proofs.Common.{◌≡◌, ◌∙◌, ℕ, zero, suc, ◌<◌, Bool, true, false, List, [], ◌∷◌, ◌++◌, length, get_or, Option, None, Result, arith, inl, inr, refl, ap, sym, subst}
 use Rattle.std.specs.Prelude.{is_some}
 use Rattle.bitlane.specs.Bits.{bit}
 use Rattle.bitlane.proofs.Tables.{get_or-tabulate, length-tabulate}
@@ -10,12 +10,12 @@ use Rattle.coltypes.specs.Keep.{keep, place, trues}
 use Rattle.coltypes.specs.LogicalType.{LogicalType}
 use Rattle.coltypes.specs.declared.fault.Fault.{Fault}
 use Rattle.rowtypes.specs.Rows.{DecodeFails, FirstUnread}
-use Rattle.rowplan.specs.Outcomes.{Outcome}
+use Rattle.rowplan.specs.Law.{RowLaw}
 use Rattle.rowexec.specs.Reads.{ReadFails, UnreadAt}
-use Rattle.rowexec.specs.Evidence.{EvidenceFails, joined}
+use Rattle.rowexec.specs.Evidence.{EvidenceFails, RowsFail}
 use Rattle.rowexec.specs.Rows.{Accepted, EachHasRows, full_cells, types_of, with_cell}
 use Rattle.rowexec.specs.Selections.{FilteredFrom}
-use Rattle.rowexec.specs.Visits.{FilteredColumn, FullAt, RanRows, ValidColumn}
+use Rattle.rowexec.specs.Visits.{CallFails, FilteredColumn, FullAt, RanRows, ValidColumn, VisitFails}
 use Rattle.rowexec.proofs.JoinedRows.{joined_marked}
 use Rattle.rowexec.proofs.Reading.{full_at}
 use Rattle.rowloops.proofs.SetPlaces.{place_of, place_within}
@@ -111,35 +111,38 @@ fails_kept marks reads k olds news h e (inl m) = inl m
 fails_kept marks reads k olds news h e (inr p) = inr (record { place = p.place; is = p.is; unread = unread_kept marks reads k olds news p.place h p.first })
 
 -- the values of the filtered columns, each at its own row
-pub values_kept : {E : Type 0} (finish : E → Option ℕ) (meaning : List Cell → Outcome E) (storage : Option LogicalType) (marks : List Bool) (olds news : List Array) → EachHasRows (length marks) olds → MarksFull marks olds → FilteredFrom marks olds news → (a : Array) → FilteredColumn finish meaning storage news marks a → ValidColumn finish meaning storage olds (length marks) a
-values_kept finish meaning storage marks olds news n m h a f = record {
+pub values_kept : {E : Type 0} (law : RowLaw E) (marks : List Bool) (olds news : List Array) → EachHasRows (length marks) olds → MarksFull marks olds → FilteredFrom marks olds news → (a : Array) → FilteredColumn law news marks a → ValidColumn law olds (length marks) a
+values_kept law marks olds news n m h a f = record {
   stored = f.stored;
   counted = f.counted;
   each = λ i cells k e.
       let from = place_of marks i (m i k ∙ ap is_some e) in
-      let Done : ℕ → Type 0 = λ r. Accepted finish (meaning cells) (row a r) in
+      let Done : ℕ → Type 0 = λ r. Accepted law cells (row a r) in
       subst Done from.2 (f.each from.0 cells from.1 (cells_kept marks olds news from.0 n h from.1 ∙ ap (full_cells olds) from.2 ∙ e));
+  read = λ i cells k e.
+      let from = place_of marks i (m i k ∙ ap is_some e) in
+      f.read from.0 cells from.1 (cells_kept marks olds news from.0 n h from.1 ∙ ap (full_cells olds) from.2 ∙ e);
 }
 
--- the evidence of the filtered columns is that of the full rows
-pub evidence_kept : {E : Type 0} (join : E → E → E) (neutral : E) (meaning : List Cell → Outcome E) (deferred : Bool) (finish : E → Option ℕ) (marks : List Bool) (olds news : List Array) → EachHasRows (length marks) olds → MarksFull marks olds → FilteredFrom marks olds news
-    → (e : Fault) → EvidenceFails deferred finish (joined join neutral meaning (full_cells news) (trues marks)) e → EvidenceFails deferred finish (joined join neutral meaning (full_cells olds) (length marks)) e
-evidence_kept {E} join neutral meaning deferred finish marks olds news n m h e f =
-    let Fails : E → Type 0 = λ v. EvidenceFails deferred finish v e in
-    subst Fails (joined_marked join neutral meaning marks (full_cells olds) (full_cells news) m (λ j k. cells_kept marks olds news j n h k)) f
+-- a failure of the filtered columns is one of the full rows
+pub evidence_kept : {E : Type 0} (law : RowLaw E) (marks : List Bool) (olds news : List Array) → EachHasRows (length marks) olds → MarksFull marks olds → FilteredFrom marks olds news
+    → (e : Fault) → RowsFail law news (trues marks) e → RowsFail law olds (length marks) e
+evidence_kept {E} law marks olds news n m h e f =
+    let Fails : E → Type 0 = λ v. EvidenceFails law.deferred law.finish v e in
+    subst Fails (joined_marked law.join law.neutral law.meaning marks (full_cells olds) (full_cells news) m (λ j k. cells_kept marks olds news j n h k)) f
 
-module _ {E : Type 0} (finish : E → Option ℕ) (join : E → E → E) (neutral : E) (meaning : List LogicalType → List Cell → Outcome E) (deferred : List LogicalType → Bool) (storage : List LogicalType → Option LogicalType) (reads : List LogicalType → ℕ → Cell → Type 0) where
+module _ {E : Type 0} (law : List LogicalType → RowLaw E) where
   -- what a run of the filtered columns answers
   pub ran_kept : (told types : List LogicalType) (marks : List Bool) (olds news : List Array) (answer : Result Array Fault) (prepares steps : ℕ) → told ≡ types → EachHasRows (length marks) olds → MarksFull marks olds → FilteredFrom marks olds news
-      → RanRows (trues marks) (FilteredColumn finish (meaning told) (storage told) news marks) (λ e. DecodeFails (reads told) 0 news e ⊎ EvidenceFails (deferred told) finish (joined join neutral (meaning told) (full_cells news) (trues marks)) e) answer prepares steps
-      → RanRows (trues marks) (ValidColumn finish (meaning types) (storage types) olds (length marks)) (λ e. ReadFails (reads types) 0 olds e ⊎ EvidenceFails (deferred types) finish (joined join neutral (meaning types) (full_cells olds) (length marks)) e) answer prepares steps
+      → RanRows (trues marks) (FilteredColumn (law told) news marks) (VisitFails (law told) news (trues marks)) answer prepares steps
+      → RanRows (trues marks) (ValidColumn (law types) olds (length marks)) (CallFails (law types) olds (length marks)) answer prepares steps
   ran_kept told types marks olds news answer prepares steps same n m h ran =
-      let Old : Fault → Type 0 = λ e. DecodeFails (reads types) 0 news e ⊎ EvidenceFails (deferred types) finish (joined join neutral (meaning types) (full_cells news) (trues marks)) e in
-      let New : Fault → Type 0 = λ e. ReadFails (reads types) 0 olds e ⊎ EvidenceFails (deferred types) finish (joined join neutral (meaning types) (full_cells olds) (length marks)) e in
+      let own = law types in
+      let Old : Fault → Type 0 = VisitFails own news (trues marks) in
+      let New : Fault → Type 0 = CallFails own olds (length marks) in
       let fails : (e : Fault) → Old e → New e = λ e d. elim d [
-        | inl f ↦ inl (fails_kept marks (reads types) 0 olds news h e f)
-        | inr f ↦ inr (evidence_kept join neutral (meaning types) (deferred types) finish marks olds news n m h e f)
+        | inl f ↦ inl (fails_kept marks own.arguments.reads 0 olds news h e f)
+        | inr f ↦ inr (evidence_kept own marks olds news n m h e f)
       ] in
-      let Told : List LogicalType → Type 0 = λ ts. RanRows (trues marks) (FilteredColumn finish (meaning ts) (storage ts) news marks) (λ e. DecodeFails (reads ts) 0 news e ⊎ EvidenceFails (deferred ts) finish (joined join neutral (meaning ts) (full_cells news) (trues marks)) e) answer prepares steps in
-      ran_weaker (trues marks) (FilteredColumn finish (meaning types) (storage types) news marks) (ValidColumn finish (meaning types) (storage types) olds (length marks)) Old New answer prepares steps
-      (values_kept finish (meaning types) (storage types) marks olds news n m h) fails (subst Told same ran)
+      let Told : List LogicalType → Type 0 = λ ts. RanRows (trues marks) (FilteredColumn (law ts) news marks) (VisitFails (law ts) news (trues marks)) answer prepares steps in
+      ran_weaker (trues marks) (FilteredColumn own news marks) (ValidColumn own olds (length marks)) Old New answer prepares steps (values_kept own marks olds news n m h) fails (subst Told same ran)

@@ -15,7 +15,7 @@ under_mask true o x c e h = cc (e, h)
 under_mask false o x c e h = absurd (cc)
 
 -- a row of a batch constant that is not null is its value
-constant_row : (a : Array) (i : ℕ) (x c : Cell) → constant_cell a ≡ Some x → row a i ≡ Some c → x ≡ c
+pub constant_row : (a : Array) (i : ℕ) (x c : Cell) → constant_cell a ≡ Some x → row a i ≡ Some c → x ≡ c
 constant_row (constant s n) i x c e h = cc (e, h)
 constant_row (masked (constant s n) v) i x c e h = under_mask (valid_at v i) (option_map cell_of s.value) x c e h
 constant_row (extension t (constant s n)) i x c e h = cc (e, h)
@@ -30,14 +30,14 @@ shown_at shown p q a i c None e h = q a i c e h
 shown_at shown p q a i c (Some x) e h = p a i x e ∙ constant_row a i x c (picked (nat_lt 0 (len a)) (constant_cell a) x e) h
 
 -- the first cell and those after it
-record Split (o : Option Cell) (rest : Option (List Cell)) (cells : List Cell) : Type 0 where
+pub record Split (o : Option Cell) (rest : Option (List Cell)) (cells : List Cell) : Type 0 where
   pub first : Cell
   pub later : List Cell
   pub here : o ≡ Some first
   pub there : rest ≡ Some later
   pub whole : cells ≡ first ∷ later
 
-split : (o : Option Cell) (rest : Option (List Cell)) (cells : List Cell) → with_cell o rest ≡ Some cells → Split o rest cells
+pub split : (o : Option Cell) (rest : Option (List Cell)) (cells : List Cell) → with_cell o rest ≡ Some cells → Split o rest cells
 split (Some c) (Some later) cells h = record { first = c; later = later; here = refl; there = refl; whole = cc }
 split (Some c) None cells h = absurd (cc)
 split None rest cells h = absurd (cc)

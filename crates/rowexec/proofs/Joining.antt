@@ -5,10 +5,12 @@ use Rattle.std.proofs.lemmas.Bool.{cases_eq}
 use Rattle.bitlane.specs.Evidence.{JoinLaws}
 use Rattle.bitlane.specs.Maps.{Joined, none, more, skip}
 use Rattle.coltypes.specs.Cell.{Cell}
+use Rattle.rowplan.specs.Law.{Lawful, RowLaw}
 use Rattle.rowplan.specs.Outcomes.{EvidenceIs, FinishLaws, Outcome, done}
 use Rattle.rowloops.specs.Answers.{StatesChecked}
 use Rattle.rowexec.specs.Evidence.{joined, joined_with}
 use Rattle.rowexec.specs.Rows.{Accepted}
+use Rattle.rowexec.proofs.Laws.{joined_as}
 
 -- the row has cells, whose outcome is the cell of the answer's row and this evidence
 pub record RowOutcome {E : Type 0} (meaning : List Cell → Outcome E) (cells : Option (List Cell)) (row : Option Cell) (evidence : E) : Type 0 where
@@ -74,33 +76,33 @@ each_accepted {E} in_range join neutral finish selected At n total laws judges r
     here_or_before (inr ne) earlier = earlier (omega arith)
 
 -- what the joined evidence of n rows says: whose it is, and of an accepted one that each row's is accepted
-pub record JoinedRows {E : Type 0} (in_range : E → Type 0) (join : E → E → E) (neutral : E) (finish : E → Option ℕ) (meaning : List Cell → Outcome E) (cells : ℕ → Option (List Cell)) (row : ℕ → Option Cell) (n : ℕ) (total : E) : Type 0 where
-  pub is : total ≡ joined join neutral meaning cells n
+pub record JoinedRows {E : Type 0} (in_range : E → Type 0) (law : RowLaw E) (cells : ℕ → Option (List Cell)) (row : ℕ → Option Cell) (n : ℕ) (total : E) : Type 0 where
+  pub is : total ≡ joined law.join law.neutral law.meaning cells n
   pub ranged : in_range total
-  pub rows : finish total ≡ None → (i : ℕ) (of : List Cell) → i < n → cells i ≡ Some of → Accepted finish (meaning of) (row i)
+  pub rows : law.finish total ≡ None → (i : ℕ) (of : List Cell) → i < n → cells i ≡ Some of → Accepted law of (row i)
 
 same_cells : (o : Option (List Cell)) (a b : List Cell) → o ≡ Some a → o ≡ Some b → a ≡ b
 same_cells o a b e h = cc (e, h)
 
-accepted_row : {E : Type 0} (finish : E → Option ℕ) (meaning : List Cell → Outcome E) (cells : Option (List Cell)) (row : Option Cell) (of : List Cell) → cells ≡ Some of → AcceptedAt finish (RowOutcome meaning cells row) → Accepted finish (meaning of) row
-accepted_row finish meaning cells row of e a = record {
+accepted_row : {E : Type 0} (law : RowLaw E) (cells : Option (List Cell)) (row : Option Cell) (of : List Cell) → cells ≡ Some of → AcceptedAt law.finish (RowOutcome law.meaning cells row) → Accepted law of row
+accepted_row law cells row of e a = record {
   cell = a.at.cell;
   evidence = a.evidence;
   is = a.at.is;
-  outcome_is = ap meaning (same_cells cells of a.at.of e a.at.cells_are) ∙ a.at.outcome_is;
+  outcome_is = ap law.meaning (same_cells cells of a.at.of e a.at.cells_are) ∙ a.at.outcome_is;
   accepted = a.accepted;
 }
 
-pub of_outcomes : {E : Type 0} (in_range : E → Type 0) (join : E → E → E) (neutral : E) (finish : E → Option ℕ) (meaning : List Cell → Outcome E) (cells : ℕ → Option (List Cell)) (row : ℕ → Option Cell) (selected : ℕ → Bool) (n : ℕ) (total : E)
-    → JoinLaws E in_range join neutral → FinishLaws E in_range join neutral finish → ((of : List Cell) → EvidenceIs in_range (meaning of)) → ((i : ℕ) → i < n → selected i ≡ is_some (cells i))
-    → Joined join neutral selected (λ i v. RowOutcome meaning (cells i) (row i) v) n total → JoinedRows in_range join neutral finish meaning cells row n total
-of_outcomes {E} in_range join neutral finish meaning cells row selected n total laws judges ranged same j =
-    let At : ℕ → E → Type 0 = λ i v. RowOutcome meaning (cells i) (row i) v in
-    let each_ranged : (i : ℕ) (v : E) → At i v → in_range v = λ i v at. row_in_range in_range meaning (cells i) (row i) v ranged at in
+pub of_outcomes : {E : Type 0} (in_range : E → Type 0) (join : E → E → E) (neutral : E) (law : RowLaw E) (arity : ℕ) (infallible : Bool) (cells : ℕ → Option (List Cell)) (row : ℕ → Option Cell) (selected : ℕ → Bool) (n : ℕ) (total : E)
+    → JoinLaws E in_range join neutral → Lawful law arity infallible in_range join neutral → ((i : ℕ) → i < n → selected i ≡ is_some (cells i))
+    → Joined join neutral selected (λ i v. RowOutcome law.meaning (cells i) (row i) v) n total → JoinedRows in_range law cells row n total
+of_outcomes {E} in_range join neutral law arity infallible cells row selected n total laws lawful same j =
+    let At : ℕ → E → Type 0 = λ i v. RowOutcome law.meaning (cells i) (row i) v in
+    let each_ranged : (i : ℕ) (v : E) → At i v → in_range v = λ i v at. row_in_range in_range law.meaning (cells i) (row i) v lawful.evidence_in_range at in
     record {
-      is = joined_total join neutral meaning cells row selected n total same j;
+      is = joined_total join neutral law.meaning cells row selected n total same j ∙ joined_as cells n lawful;
       ranged = total_in_range in_range join neutral selected At n total laws each_ranged j;
-      rows = λ accepted i of lt e. accepted_row finish meaning (cells i) (row i) of e (each_accepted in_range join neutral finish selected At n total laws judges each_ranged j accepted i lt (same i lt ∙ ap is_some e));
+      rows = λ accepted i of lt e. accepted_row law (cells i) (row i) of e (each_accepted in_range join neutral law.finish selected At n total laws lawful.finish_laws each_ranged j accepted i lt (same i lt ∙ ap is_some e));
     }
 
 -- the cells of a row that has some
@@ -123,16 +125,16 @@ outcome_row meaning cells_of shows of post states cells row v e h agrees s = rec
 }
 
 -- what a loop joined over the rows that have cells, from its callback's agreement with the meaning
-pub joined_rows : {X R E : Type 0} {post : X → R × E → Type 0} (in_range : E → Type 0) (join : E → E → E) (neutral : E) (finish : E → Option ℕ) (meaning : List Cell → Outcome E) (cells_of : X → List Cell) (shows : ℕ → List Cell) (states : R → Cell) (cells : ℕ → Option (List Cell)) (row : ℕ → Option Cell) (selected : ℕ → Bool) (n : ℕ) (total : E)
-    → JoinLaws E in_range join neutral → FinishLaws E in_range join neutral finish → ((of : List Cell) → EvidenceIs in_range (meaning of)) → ((i : ℕ) → i < n → selected i ≡ is_some (cells i))
+pub joined_rows : {X R E : Type 0} {post : X → R × E → Type 0} (in_range : E → Type 0) (join : E → E → E) (neutral : E) (law : RowLaw E) (arity : ℕ) (infallible : Bool) (cells_of : X → List Cell) (shows : ℕ → List Cell) (states : R → Cell) (cells : ℕ → Option (List Cell)) (row : ℕ → Option Cell) (selected : ℕ → Bool) (n : ℕ) (total : E)
+    → JoinLaws E in_range join neutral → Lawful law arity infallible in_range join neutral → ((i : ℕ) → i < n → selected i ≡ is_some (cells i))
     → ((i : ℕ) (of : List Cell) → i < n → cells i ≡ Some of → shows i ≡ of)
-    → ((i : ℕ) → i < n → selected i ≡ true → (x : X) (r : R × E) → cells_of x ≡ shows i → post x r → meaning (cells_of x) ≡ done (states r.0) r.1)
-    → Joined join neutral selected (λ i v. StatesChecked (λ x. cells_of x ≡ shows i) (λ x r. post x r) states (row i) v) n total → JoinedRows in_range join neutral finish meaning cells row n total
-joined_rows {X} {R} {E} {post} in_range join neutral finish meaning cells_of shows states cells row selected n total laws judges ranged same there agrees j =
+    → ((i : ℕ) → i < n → selected i ≡ true → (x : X) (r : R × E) → cells_of x ≡ shows i → post x r → law.meaning (cells_of x) ≡ done (states r.0) r.1)
+    → Joined join neutral selected (λ i v. StatesChecked (λ x. cells_of x ≡ shows i) (λ x r. post x r) states (row i) v) n total → JoinedRows in_range law cells row n total
+joined_rows {X} {R} {E} {post} in_range join neutral law arity infallible cells_of shows states cells row selected n total laws lawful same there agrees j =
     let Before : ℕ → E → Type 0 = λ i v. StatesChecked (λ x. cells_of x ≡ shows i) (λ x r. post x r) states (row i) v in
-    let After : ℕ → E → Type 0 = λ i v. RowOutcome meaning (cells i) (row i) v in
+    let After : ℕ → E → Type 0 = λ i v. RowOutcome law.meaning (cells i) (row i) v in
     let step : (i : ℕ) (v : E) → i < n → selected i ≡ true → Before i v → After i v =
     λ i v lt t s.
     let has = some_cells (cells i) (sym (same i lt) ∙ t) in
-    outcome_row meaning cells_of (shows i) has.of (λ x r. post x r) states (cells i) (row i) v has.is (there i has.of lt has.is) (agrees i lt t) s in
-    of_outcomes in_range join neutral finish meaning cells row selected n total laws judges ranged same (selected_map join neutral selected Before After n total step j)
+    outcome_row law.meaning cells_of (shows i) has.of (λ x r. post x r) states (cells i) (row i) v has.is (there i has.of lt has.is) (agrees i lt t) s in
+    of_outcomes in_range join neutral law arity infallible cells row selected n total laws lawful same (selected_map join neutral selected Before After n total step j)

@@ -2,12 +2,11 @@
 use Rattle.std.proofs.Common.{◌≡◌, ◌∙◌, ℕ, Bool, true, List, Option, None, Some, inr, refl, sym, subst, ap, arith}
 use Rattle.std.specs.Prelude.{◌⊎◌, ◌≤◌, ⊤, Result, Ok, Err, IfOk, IfErr}
 use Rattle.colbase.specs.Arrays.{Array}
-use Rattle.coltypes.specs.Cell.{Cell}
-use Rattle.coltypes.specs.LogicalType.{LogicalType}
 use Rattle.coltypes.specs.declared.fault.Fault.{Fault}
 use Rattle.coltypes.specs.declared.fault.Fault.TheVariants.{Row}
 use Rattle.coltypes.specs.declared.fault.RowError.{RowError}
-use Rattle.rowplan.specs.Outcomes.{Outcome, judged}
+use Rattle.rowplan.specs.Law.{RowLaw}
+use Rattle.rowplan.specs.Outcomes.{judged}
 use Rattle.rowloops.specs.Answers.{AttemptIs, Judges}
 use Rattle.rowexec.specs.Evidence.{EvidenceFails, joined, shown_cells}
 use Rattle.rowexec.specs.Visits.{Attempted, DenseColumn, RanRows, ShowsFull}
@@ -75,24 +74,24 @@ ran_out n steps Gives Fails (Err f) fault e h most = record {
   least = tt;
 }
 
-attempted : {E : Type 0} (Post : Result ⊤ RowError → Type 0) (deferred : Bool) (finish : E → Option ℕ) (join : E → E → E) (neutral : E) (meaning : List Cell → Outcome E) (shown : ℕ → Array → ℕ → Cell) (storage : Option LogicalType) (columns : List Array) (n : ℕ) (total : E) (values : Array) (attempt : DenseAttempt)
-    → deferred ≡ true → total ≡ joined join neutral meaning (shown_cells shown columns) n → ((r : Result ⊤ RowError) → Post r → r ≡ judged (finish total)) → ShowsFull shown columns → (finish total ≡ None → DenseColumn finish meaning shown storage columns n values) → AttemptIs (Post) values attempt
-    → Attempted deferred finish join neutral meaning shown storage columns n attempt
-attempted Post deferred finish join neutral meaning shown storage columns n total values (Values a) d same finishes full gives h =
-    let accepted = judged_accepted (finish total) (finishes (Ok tt) h.0) in
-    (subst (DenseColumn finish meaning shown storage columns n) (sym h.1) (gives accepted), ap finish (sym same) ∙ accepted)
-attempted Post deferred finish join neutral meaning shown storage columns n total values (DeferredError error) d same finishes full gives h =
-    let j = judged_code (finish total) error (finishes (Err error) h) in
-    (d, ap finish (sym same) ∙ j.judgement ∙ code_is j.code error j.is, full)
+attempted : {E : Type 0} (Post : Result ⊤ RowError → Type 0) (law : RowLaw E) (columns : List Array) (n : ℕ) (total : E) (values : Array) (attempt : DenseAttempt)
+    → law.deferred ≡ true → total ≡ joined law.join law.neutral law.meaning (shown_cells law.arguments.shown columns) n → ((r : Result ⊤ RowError) → Post r → r ≡ judged (law.finish total)) → ShowsFull law.arguments.shown columns → (law.finish total ≡ None → DenseColumn law columns n values) → AttemptIs (Post) values attempt
+    → Attempted law columns n attempt
+attempted Post law columns n total values (Values a) d same finishes full gives h =
+    let accepted = judged_accepted (law.finish total) (finishes (Ok tt) h.0) in
+    (subst (DenseColumn law columns n) (sym h.1) (gives accepted), ap law.finish (sym same) ∙ accepted)
+attempted Post law columns n total values (DeferredError error) d same finishes full gives h =
+    let j = judged_code (law.finish total) error (finishes (Err error) h) in
+    (d, ap law.finish (sym same) ∙ j.judgement ∙ code_is j.code error j.is, full)
   where
     code_is : (code : ℕ) (e : RowError) → e ≡ record { 0 = code } → Some code ≡ Some e.0
     code_is code e is = cc
 
 -- an attempt whose loop ran
-pub ran_attempt : {E : Type 0} (Post : Result ⊤ RowError → Type 0) (deferred : Bool) (finish : E → Option ℕ) (join : E → E → E) (neutral : E) (meaning : List Cell → Outcome E) (shown : ℕ → Array → ℕ → Cell) (storage : Option LogicalType) (columns : List Array) (n steps : ℕ) (Fails : Fault → Type 0) (total : E) (values : Array) (attempt : DenseAttempt) (answer : Result DenseAttempt Fault)
-    → answer ≡ Ok attempt → deferred ≡ true → total ≡ joined join neutral meaning (shown_cells shown columns) n → ((r : Result ⊤ RowError) → Post r → r ≡ judged (finish total)) → ShowsFull shown columns → (finish total ≡ None → DenseColumn finish meaning shown storage columns n values) → AttemptIs (Post) values attempt
-    → steps ≤ n → n ≤ steps → RanRows n (Attempted deferred finish join neutral meaning shown storage columns n) Fails answer 1 steps
-ran_attempt Post deferred finish join neutral meaning shown storage columns n steps Fails total values attempt answer e d same finishes full gives h most least =
-    let Gives : DenseAttempt → Type 0 = Attempted deferred finish join neutral meaning shown storage columns n in
-    let tried = attempted Post deferred finish join neutral meaning shown storage columns n total values attempt d same finishes full gives h in
+pub ran_attempt : {E : Type 0} (Post : Result ⊤ RowError → Type 0) (law : RowLaw E) (columns : List Array) (n steps : ℕ) (Fails : Fault → Type 0) (total : E) (values : Array) (attempt : DenseAttempt) (answer : Result DenseAttempt Fault)
+    → answer ≡ Ok attempt → law.deferred ≡ true → total ≡ joined law.join law.neutral law.meaning (shown_cells law.arguments.shown columns) n → ((r : Result ⊤ RowError) → Post r → r ≡ judged (law.finish total)) → ShowsFull law.arguments.shown columns → (law.finish total ≡ None → DenseColumn law columns n values) → AttemptIs (Post) values attempt
+    → steps ≤ n → n ≤ steps → RanRows n (Attempted law columns n) Fails answer 1 steps
+ran_attempt Post law columns n steps Fails total values attempt answer e d same finishes full gives h most least =
+    let Gives : DenseAttempt → Type 0 = Attempted law columns n in
+    let tried = attempted Post law columns n total values attempt d same finishes full gives h in
     subst (λ (r : Result DenseAttempt Fault). RanRows n Gives Fails r 1 steps) (sym e) (record { answered = tried; prepared = omega arith; most = most; least = least })

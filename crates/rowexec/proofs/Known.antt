@@ -10,7 +10,9 @@ use Rattle.coltypes.specs.declared.fault.Fault.TheVariants.{Memory}
 use Rattle.rowouts.specs.Outputs.{StatesAnswer}
 use Rattle.rowtypes.specs.Rows.{AgreesWith, DecodeFails, ReadsAllFrom, ReadsKnown, batch_values, shown_from}
 use Rattle.rowelems.specs.Shown.{batch_value}
-use Rattle.rowplan.specs.Outcomes.{Outcome, done}
+use Rattle.rowplan.specs.Law.{RowLaw}
+use Rattle.rowplan.specs.Outcomes.{done}
+use Rattle.rowexec.specs.Reads.{ReadsFull}
 use Rattle.rowexec.specs.Visits.{DenseColumn, RanRows, ShowsFull}
 use Rattle.rowexec.proofs.Dense.{dense_column}
 
@@ -19,7 +21,7 @@ chosen true o x e = (refl, e)
 chosen false o x e = cc
 
 -- the value of a batch constant must be read
-value_must_be_read : (a : Array) (x : Cell) → batch_value a ≡ Some x → MustRead a x
+pub value_must_be_read : (a : Array) (x : Cell) → batch_value a ≡ Some x → MustRead a x
 value_must_be_read a x e =
     let b = chosen (nat_lt 0 (len a)) (constant_cell a) x e in
     let few : 0 < len a = grind (arith, nat_tests, b.0) in
@@ -38,20 +40,20 @@ pub agrees_at : (known known' : List (Option Cell)) (cells cells' : List Cell) �
 agrees_at known known' cells cells' e h a = subst (λ (k : List (Option Cell)). AgreesWith k cells) (sym e) (subst (λ (c : List Cell). AgreesWith known' c) (sym h) a)
 
 -- an execution whose loop ran
-pub ran : {E X R : Type 0} {post : X → R → Type 0} (r : Result Array Fault) (n steps : ℕ) (finish : E → Option ℕ) (meaning : List Cell → Outcome E) (neutral : E) (Judged : Fault → Type 0) (reads : ℕ → Cell → Type 0) (shown : ℕ → Array → ℕ → Cell) (storage : Option LogicalType) (t : LogicalType) (columns : List Array) (cells : X → List Cell) (shows : ℕ → List Cell) (states : R → Cell)
-    → finish neutral ≡ None → storage ≡ Some t → ((i : ℕ) → i < n → shows i ≡ shown_from shown 0 columns i)
-    → ((i : ℕ) → i < n → (x : X) (y : R) → cells x ≡ shows i → post x y → meaning (cells x) ≡ done (states y) neutral)
-    → ShowsFull shown columns
+pub ran : {E X R : Type 0} {post : X → R → Type 0} (r : Result Array Fault) (n steps : ℕ) (law : RowLaw E) (Judged : Fault → Type 0) (t : LogicalType) (columns : List Array) (cells : X → List Cell) (shows : ℕ → List Cell) (states : R → Cell)
+    → law.finish law.neutral ≡ None → law.output.storage ≡ Some t → ((i : ℕ) → i < n → shows i ≡ shown_from law.arguments.shown 0 columns i)
+    → ((i : ℕ) → i < n → (x : X) (y : R) → cells x ≡ shows i → post x y → law.meaning (cells x) ≡ done (states y) law.neutral)
+    → ShowsFull law.arguments.shown columns → ReadsFull law columns n
     → IfOk r (λ a. dtype a ≡ t) → IfOk r (λ a. len a ≡ n) → IfOk r (λ a. (i : ℕ) → i < n → StatesAnswer (λ x. cells x ≡ shows i) (λ x y. post x y) states (row a i))
     → IfErr r (λ e. e ≡ Memory) → steps ≤ n → IfOk r (λ a. n ≤ steps)
-    → RanRows n (DenseColumn finish meaning shown storage columns n) (λ e. DecodeFails reads 0 columns e ⊎ Judged e) r 1 steps
-ran {E} {X} {R} {post} (Ok a) n steps finish meaning neutral Judged reads shown storage t columns cells shows states accepts hs same agrees full ht hn each errors most least = record {
-  answered = dense_column finish meaning neutral shown storage t columns n cells shows post states a accepts hs same agrees full ht hn each;
+    → RanRows n (DenseColumn law columns n) (λ e. DecodeFails law.arguments.reads 0 columns e ⊎ Judged e) r 1 steps
+ran {E} {X} {R} {post} (Ok a) n steps law Judged t columns cells shows states accepts hs same agrees full read ht hn each errors most least = record {
+  answered = dense_column law t columns n cells shows post states a accepts hs same agrees full read ht hn each;
   prepared = omega arith;
   most = most;
   least = least;
 }
-ran (Err e) n steps finish meaning neutral Judged reads shown storage t columns cells shows states accepts hs same agrees full ht hn each errors most least = record {
+ran (Err e) n steps law Judged t columns cells shows states accepts hs same agrees full read ht hn each errors most least = record {
   answered = inl (inl errors);
   prepared = omega arith;
   most = most;

@@ -6,7 +6,6 @@ use Rattle.bitlane.specs.Evidence.{JoinLaws}
 use Rattle.colbase.specs.Arrays.{Array, constant, constant_cell, dtype, extension, len, masked, row}
 use Rattle.coltypes.specs.Cell.{Cell}
 use Rattle.coltypes.specs.CellOf.{cell_of}
-use Rattle.coltypes.specs.LogicalType.{LogicalType}
 use Rattle.colbase.specs.Parts.{own_validity}
 use Rattle.coltypes.specs.Valid.{valid_at, validity_kind}
 use Rattle.coltypes.specs.declared.fault.Fault.{Fault}
@@ -16,20 +15,17 @@ use Rattle.coltypes.specs.declared.validity.Validity.TheVariants as v
 use Rattle.rowtypes.specs.Rows.{decoded_lengths, each_length, shown_from}
 use Rattle.rowelems.specs.Argument.{is_length, length_unless}
 use Rattle.rowelems.specs.Shown.{batch_value}
-use Rattle.rowplan.specs.Outcomes.{EvidenceIs, Outcome}
+use Rattle.rowplan.specs.Law.{Lawful, RowLaw}
 use Rattle.rowexec.specs.Counts.{each_one_value, is_no_nulls, is_one_value, one_row, some_column}
-use Rattle.rowexec.specs.Evidence.{EvidenceFails, joined}
+use Rattle.rowexec.specs.Evidence.{EvidenceFails, RowsFail}
 use Rattle.rowexec.specs.Rows.{Accepted, full_cells, with_cell}
 use Rattle.rowexec.specs.Visits.{DenseColumn, RanRows}
-use Rattle.rowexec.proofs.Batches.{both_are}
+use Rattle.rowexec.proofs.Batches.{both_are, both_parts}
 use Rattle.rowexec.proofs.FullRows.{picked}
 use Rattle.rowexec.proofs.JoinedRows.{joined_first}
+use Rattle.rowexec.proofs.Laws.{joins_lawfully}
 use Rattle.rowexec.proofs.Results.{err_then, match_result, three_then}
 use Rattle.rowloops.proofs.Results.{ok_then}
-
-pub both_parts : (a b : Bool) → (a && b) ≡ true → (a ≡ true) × (b ≡ true)
-both_parts true b h = (refl, h)
-both_parts false b h = absurd (cc)
 
 no_null_at : (w : Validity) (i : ℕ) → is_no_nulls (validity_kind w) ≡ true → valid_at w i ≡ true
 no_null_at v.NonNullable i h = refl
@@ -99,41 +95,48 @@ each_of_one n columns h =
 pub some_rows : (n : ℕ) (columns : List Array) → one_row n columns ≡ true → 0 < n
 some_rows n columns h = grind (arith, nat_tests, (both_parts (nat_lt 0 n) (some_column columns && each_one_value columns) h).0)
 
-moved : {E : Type 0} (finish : E → Option ℕ) (meaning : List Cell → Outcome E) (shown cells : List Cell) (r s : Option Cell) → shown ≡ cells → r ≡ s → Accepted finish (meaning shown) r → Accepted finish (meaning cells) s
-moved finish meaning shown cells r s p q d = record { cell = d.cell; evidence = d.evidence; is = sym q ∙ d.is; outcome_is = ap meaning (sym p) ∙ d.outcome_is; accepted = d.accepted }
+moved : {E : Type 0} (law : RowLaw E) (before after : List Cell) (r s : Option Cell) → before ≡ after → r ≡ s → Accepted law before r → Accepted law after s
+moved law before after r s p q d = record { cell = d.cell; evidence = d.evidence; is = sym q ∙ d.is; outcome_is = ap law.meaning (sym p) ∙ d.outcome_is; accepted = d.accepted }
+
+-- the cells of a row that are those of another
+some_same : (o p : Option (List Cell)) (xs ys : List Cell) → o ≡ Some xs → p ≡ Some ys → o ≡ p → xs ≡ ys
+some_same o p xs ys e f h = cc (e, f, h)
 
 -- a column whose rows are all the first row of the values of one row
-pub repeats : {E : Type 0} (finish : E → Option ℕ) (meaning : List Cell → Outcome E) (shown : ℕ → Array → ℕ → Cell) (storage : Option LogicalType) (columns : List Array) (n : ℕ) (one a : Array) → each_one_value columns ≡ true → DenseColumn finish meaning shown storage columns 1 one → dtype a ≡ dtype one → len a ≡ n → ((i : ℕ) → row a i ≡ row one 0) → DenseColumn finish meaning shown storage columns n a
-repeats finish meaning shown storage columns n one a h d t k rs =
+pub repeats : {E : Type 0} (law : RowLaw E) (columns : List Array) (n : ℕ) (one a : Array) → each_one_value columns ≡ true → DenseColumn law columns 1 one → dtype a ≡ dtype one → len a ≡ n → ((i : ℕ) → row a i ≡ row one 0) → DenseColumn law columns n a
+repeats law columns n one a h d t k rs =
     let same = each_row columns h in
     let first : 0 < 1 = omega arith in
     record {
       stored = d.stored ∙ ap Some (sym t);
       counted = k;
-      each = λ i b. moved finish meaning (shown_from shown 0 columns 0) (shown_from shown 0 columns i) (row one 0) (row a i) (d.full 0 same.cells (same.each 0) ∙ sym (d.full i same.cells (same.each i))) (sym (rs i)) (d.each 0 first);
+      each = λ i b. moved law (shown_from law.arguments.shown 0 columns 0) (shown_from law.arguments.shown 0 columns i) (row one 0) (row a i) (d.full 0 same.cells (same.each 0) ∙ sym (d.full i same.cells (same.each i))) (sym (rs i)) (d.each 0 first);
       full = d.full;
+      read = λ i cells b h.
+          let first_cells = some_same (full_cells columns i) (full_cells columns 0) cells same.cells h (same.each 0) (same.each i ∙ sym (same.each 0)) in
+          d.read 0 cells first (same.each 0 ∙ ap Some (sym first_cells));
     }
 
--- the evidence of the one row is that of all rows
-pub evidence_repeats : {E : Type 0} (in_range : E → Type 0) (join : E → E → E) (neutral : E) (meaning : List Cell → Outcome E) (deferred : Bool) (finish : E → Option ℕ) (columns : List Array) (n : ℕ) → JoinLaws E in_range join neutral → ((cells : List Cell) → EvidenceIs in_range (meaning cells)) → each_one_value columns ≡ true → 0 < n
-    → (e : Fault) → EvidenceFails deferred finish (joined join neutral meaning (full_cells columns) 1) e → EvidenceFails deferred finish (joined join neutral meaning (full_cells columns) n) e
-evidence_repeats {E} in_range join neutral meaning deferred finish columns n laws within h few e f =
+-- a failure of the one row is one of all rows
+pub evidence_repeats : {E : Type 0} {in_range : E → Type 0} {join : E → E → E} {neutral : E} {arity : ℕ} {infallible : Bool} (law : RowLaw E) (columns : List Array) (n : ℕ) → Lawful law arity infallible in_range join neutral → JoinLaws E in_range join neutral → each_one_value columns ≡ true → 0 < n
+    → (e : Fault) → RowsFail law columns 1 e → RowsFail law columns n e
+evidence_repeats {E} {in_range} law columns n lawful laws h few e f =
     let same = each_row columns h in
-    let Fails : E → Type 0 = λ v. EvidenceFails deferred finish v e in
-    subst Fails (joined_first in_range join neutral meaning (full_cells columns) same.cells laws (within same.cells) same.each n few) f
+    let Fails : E → Type 0 = λ v. EvidenceFails law.deferred law.finish v e in
+    subst Fails (joined_first in_range law.join law.neutral law.meaning (full_cells columns) same.cells (joins_lawfully lawful laws) (lawful.evidence_in_range same.cells) same.each n few) f
 
 -- the answer of all rows, where that of one row is given
-pub ran_repeated : {E : Type 0} (finish : E → Option ℕ) (meaning : List Cell → Outcome E) (shown : ℕ → Array → ℕ → Cell) (storage : Option LogicalType) (columns : List Array) (n : ℕ) (First Fails : Fault → Type 0) (told : Result Array Fault) (one : Array) (given : Result Array Fault) (prepares steps : ℕ) → each_one_value columns ≡ true → Fails Memory → RanRows 1 (DenseColumn finish meaning shown storage columns 1) First told prepares steps → told ≡ Ok one → IfOk given (λ a. dtype a ≡ dtype one) → IfOk given (λ a. len a ≡ n) → IfOk given (λ a. (i : ℕ) → row a i ≡ row one 0) → IfErr given (λ e. e ≡ Memory) → RanRows 1 (DenseColumn finish meaning shown storage columns n) Fails given prepares steps
-ran_repeated finish meaning shown storage columns n First Fails told one given prepares steps h wants ran is t k rs m =
-    let One : Array → Type 0 = DenseColumn finish meaning shown storage columns 1 in
-    let All : Array → Type 0 = DenseColumn finish meaning shown storage columns n in
+pub ran_repeated : {E : Type 0} (law : RowLaw E) (columns : List Array) (n : ℕ) (First Fails : Fault → Type 0) (told : Result Array Fault) (one : Array) (given : Result Array Fault) (prepares steps : ℕ) → each_one_value columns ≡ true → Fails Memory → RanRows 1 (DenseColumn law columns 1) First told prepares steps → told ≡ Ok one → IfOk given (λ a. dtype a ≡ dtype one) → IfOk given (λ a. len a ≡ n) → IfOk given (λ a. (i : ℕ) → row a i ≡ row one 0) → IfErr given (λ e. e ≡ Memory) → RanRows 1 (DenseColumn law columns n) Fails given prepares steps
+ran_repeated law columns n First Fails told one given prepares steps h wants ran is t k rs m =
+    let One : Array → Type 0 = DenseColumn law columns 1 in
+    let All : Array → Type 0 = DenseColumn law columns n in
     let Told : Result Array Fault → Type 0 = λ r. MatchResult r One First in
     let Counts : Result Array Fault → Type 0 = λ r. IfOk r (λ a. 1 ≤ steps) in
     let first : One one = subst Told is ran.answered in
     let least : 1 ≤ steps = subst Counts is ran.least in
     record {
       answered = match_result given All Fails
-          (three_then given (λ a. dtype a ≡ dtype one) (λ a. len a ≡ n) (λ a. (i : ℕ) → row a i ≡ row one 0) All t k rs (λ a p q r. repeats finish meaning shown storage columns n one a h first p q r))
+          (three_then given (λ a. dtype a ≡ dtype one) (λ a. len a ≡ n) (λ a. (i : ℕ) → row a i ≡ row one 0) All t k rs (λ a p q r. repeats law columns n one a h first p q r))
           (err_then given (λ e. e ≡ Memory) Fails m (λ e p. subst Fails (sym p) wants));
       prepared = ran.prepared;
       most = ran.most;

@@ -1,19 +1,23 @@
 -- Which of the cells that the arguments show at a row are read.
 use Rattle.std.proofs.Common.{◌≡◌, ◌∙◌, ℕ, suc, ◌<◌, Bool, true, false, List, [], ◌∷◌, Option, None, Some, inl, inr, ap, refl, sym, subst, arith}
-use Rattle.std.specs.Prelude.{IsSome, is_some}
-use Rattle.colbase.specs.Arrays.{Array, len, row}
+use Rattle.std.specs.Prelude.{◌↔◌, IsSome, is_some, nat_lt}
+use Rattle.rowtypes.proofs.Lengths.{has_row}
+use Rattle.colbase.specs.Arrays.{Array, constant_cell, len, row}
 use Rattle.coltypes.specs.Cell.{Cell}
 use Rattle.rowtypes.specs.Arguments.{ShowsConstant, ShowsRow}
-use Rattle.rowelems.specs.Argument.{ReadsAll}
-use Rattle.rowtypes.specs.Rows.{ReadsAllFrom, ReadsFrom, shown_from}
+use Rattle.rowelems.specs.Argument.{IsWithin, ReadsAll, length_unless}
+use Rattle.rowtypes.specs.Rows.{HasRow, ReadsAllFrom, ReadsFrom, decoded_lengths, each_length, shown_from}
 use Rattle.rowelems.specs.Shown.{batch_value}
+use Rattle.rowplan.specs.Law.{RowLaw}
 use Rattle.rowplan.specs.Policies.{deferred_policy, owned_policy}
 use Rattle.rowplan.specs.declared.batch_plan.RowPolicy.{RowPolicy}
 use Rattle.rowplan.specs.declared.batch_plan.RowPolicy.TheVariants.{Dense}
 use Rattle.rowexec.specs.Counts.{runs_valid_only}
+use Rattle.rowexec.specs.Reads.{ReadsFull}
 use Rattle.rowexec.specs.Rows.{EachHasRows, full_cells, with_cell}
 use Rattle.rowexec.specs.Visits.{FullAt, MayRunAll}
-use Rattle.rowexec.proofs.FullRows.{shown_at}
+use Rattle.rowexec.proofs.FullRows.{constant_row, picked, shown_at, split}
+use Rattle.rowexec.proofs.Known.{value_must_be_read}
 
 -- where a visit that writes one value a row runs all rows, the elements are dense safe
 dense_safe_of : (policy : RowPolicy) (safe infallible : Bool) → policy ≡ Dense → policy ≡ owned_policy safe infallible → safe ≡ true
@@ -91,3 +95,26 @@ owned_dense policy true false r e =
 owned_dense policy false infallible r e =
     let k : false ≡ true = sym r ∙ ap runs_valid_only e in
     absurd (cc)
+
+-- a cell of a row that isn't null is one that must be read: it is the value of a batch constant, or stands in a row that is there
+cell_read : (reads : Cell → Type 0) (a : Array) (i : ℕ) (c : Cell) (o : Option Cell) → batch_value a ≡ o → IsWithin i (length_unless o (len a)) → ReadsAll reads a → row a i ≡ Some c → reads c
+cell_read reads a i c None e within r h = r c (inl (i, within, h))
+cell_read reads a i c (Some x) e within r h = subst reads (constant_row a i x c (picked (nat_lt 0 (len a)) (constant_cell a) x e) h) (r x (value_must_be_read a x e))
+
+no_cells : (cells : List Cell) → Some [] ≡ Some cells → [] ≡ cells
+no_cells cells e = cc e
+
+-- so each cell of a row without a null is read
+pub full_cells_read : (reads : ℕ → Cell → Type 0) (k : ℕ) (arrays : List Array) (i : ℕ) (cells : List Cell) → HasRow (decoded_lengths arrays) i → ReadsAllFrom reads k arrays → full_cells arrays i ≡ Some cells → ReadsFrom reads k cells
+full_cells_read reads k [] i cells there r h = subst (ReadsFrom reads k) (no_cells cells h) tt
+full_cells_read reads k (a ∷ arrays) i cells there r h =
+    let s = split (row a i) (full_cells arrays i) cells h in
+    subst (ReadsFrom reads k) (sym s.whole) (cell_read (reads k) a i s.first (batch_value a) refl there.0 r.0 s.here, full_cells_read reads (suc k) arrays i s.later there.1 r.1 s.there)
+
+reads_law : (reads reads' : ℕ → Cell → Type 0) → ((k : ℕ) (c : Cell) → reads k c ↔ reads' k c) → (k : ℕ) (cells : List Cell) → ReadsFrom reads k cells → ReadsFrom reads' k cells
+reads_law reads reads' same k [] h = tt
+reads_law reads reads' same k (c ∷ cells) h = ((same k c).0 h.0, reads_law reads reads' same (suc k) cells h.1)
+
+-- where the columns were decoded by elements that read what the law's read, each full row is read
+pub reads_full : {E : Type 0} (law : RowLaw E) (reads : ℕ → Cell → Type 0) (columns : List Array) (n : ℕ) → ((k : ℕ) (c : Cell) → reads k c ↔ law.arguments.reads k c) → each_length n (decoded_lengths columns) ≡ true → ReadsAllFrom reads 0 columns → ReadsFull law columns n
+reads_full law reads columns n same l r = λ i cells b h. reads_law reads law.arguments.reads same 0 cells (full_cells_read reads 0 columns i cells (has_row n (decoded_lengths columns) l i b) r h)

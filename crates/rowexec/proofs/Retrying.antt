@@ -9,11 +9,12 @@ use Rattle.coltypes.specs.declared.fault.Fault.{Fault}
 use Rattle.coltypes.specs.declared.fault.Fault.TheVariants.{Row}
 use Rattle.coltypes.specs.declared.fault.RowError.{RowError}
 use Rattle.rowtypes.specs.Rows.{shown_from}
+use Rattle.rowplan.specs.Law.{RowLaw}
 use Rattle.rowplan.specs.Outcomes.{Outcome}
 use Rattle.rowplan.specs.declared.batch_plan.RowPolicy.{RowPolicy}
 use Rattle.rowplan.specs.declared.batch_plan.RowPolicy.TheVariants.{DenseWithRetry}
 use Rattle.rowexec.specs.Counts.{full_bits, policy_steps, retried}
-use Rattle.rowexec.specs.Evidence.{EvidenceFails, is_accepted, joined, shown_cells}
+use Rattle.rowexec.specs.Evidence.{RowsFail, is_accepted, joined, shown_cells}
 use Rattle.rowexec.specs.Rows.{full_cells}
 use Rattle.rowexec.specs.Visits.{ShowsFull}
 use Rattle.rowexec.proofs.JoinedRows.{joined_same}
@@ -29,12 +30,12 @@ shown_evidence join neutral meaning shown columns n s h =
     joined_same join neutral meaning (shown_cells shown columns) (full_cells columns) n (λ i b. has_cells (full_cells columns i) (shown_from shown 0 columns i) (h i b) (s i))
 
 -- the error stands where each row is full
-pub error_stands : {E : Type 0} (join : E → E → E) (neutral : E) (meaning : List Cell → Outcome E) (deferred : Bool) (finish : E → Option ℕ) (shown : ℕ → Array → ℕ → Cell) (columns : List Array) (n : ℕ) (error : RowError) → deferred ≡ true → finish (joined join neutral meaning (shown_cells shown columns) n) ≡ Some error.0
-    → ShowsFull shown columns → ((i : ℕ) → i < n → is_some (full_cells columns i) ≡ true) → EvidenceFails deferred finish (joined join neutral meaning (full_cells columns) n) (Row error)
-error_stands join neutral meaning deferred finish shown columns n error d r s h = record {
+pub error_stands : {E : Type 0} (law : RowLaw E) (columns : List Array) (n : ℕ) (error : RowError) → law.deferred ≡ true → law.finish (joined law.join law.neutral law.meaning (shown_cells law.arguments.shown columns) n) ≡ Some error.0
+    → ShowsFull law.arguments.shown columns → ((i : ℕ) → i < n → is_some (full_cells columns i) ≡ true) → RowsFail law columns n (Row error)
+error_stands law columns n error d r s h = record {
   code = error.0;
   is_deferred = d;
-  judged = ap finish (sym (shown_evidence join neutral meaning shown columns n s h)) ∙ r;
+  judged = ap law.finish (sym (shown_evidence law.join law.neutral law.meaning law.arguments.shown columns n s h)) ∙ r;
   is = refl;
 }
 

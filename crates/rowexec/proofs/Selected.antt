@@ -6,11 +6,10 @@ use Rattle.bitlane.specs.Bits.{bit, tabulate}
 use Rattle.colbase.specs.Arrays.{Array, len, row}
 use Rattle.coltypes.specs.Cell.{Cell}
 use Rattle.coltypes.specs.Keep.{trues}
-use Rattle.coltypes.specs.LogicalType.{LogicalType}
 use Rattle.colbase.specs.Parts.{own_validity}
 use Rattle.coltypes.specs.Valid.{validity_kind}
 use Rattle.rowelems.specs.Shown.{batch_value}
-use Rattle.rowplan.specs.Outcomes.{Outcome}
+use Rattle.rowplan.specs.Law.{RowLaw}
 use Rattle.rowplan.specs.declared.batch_plan.RowPolicy.{RowPolicy}
 use Rattle.rowplan.specs.declared.batch_plan.RowPolicy.TheVariants.{Dense, DenseWithRetry, ValidOnly}
 use Rattle.rowexec.specs.Counts.{each_one_value, full_bits, is_no_nulls, is_one_value, most_prepares, one_row, policy_steps, retried, runs_valid_only, settled, some_column, steps_asked}
@@ -19,7 +18,8 @@ use Rattle.rowexec.specs.Selections.{Selected}
 use Rattle.rowexec.specs.declared.batch.selection.Selection.{Selection}
 use Rattle.rowexec.specs.Visits.{DenseColumn, FullAt, MayRunAll, ValidColumn}
 use Rattle.rowexec.proofs.FullRows.{picked}
-use Rattle.rowexec.proofs.OneRow.{both_parts, value_of, value_row}
+use Rattle.rowexec.proofs.Batches.{both_parts}
+use Rattle.rowexec.proofs.OneRow.{value_of, value_row}
 
 pub runs_alike : {p q : RowPolicy} (n : ℕ) (columns : List Array) → q ≡ p → MayRunAll q n columns → MayRunAll p n columns
 runs_alike n columns e h = subst (λ x. MayRunAll x n columns) e h
@@ -47,17 +47,18 @@ one_full n columns r h i b =
     values_full n i columns r (both_parts (some_column columns) (each_one_value columns) p.1).1 (omega (arith, few, b))
 
 -- a column of all rows gives the rows without a null argument
-pub valid_column : {E : Type 0} (finish : E → Option ℕ) (meaning : List Cell → Outcome E) (shown : ℕ → Array → ℕ → Cell) (storage : Option LogicalType) (columns : List Array) (n : ℕ) (a : Array) → DenseColumn finish meaning shown storage columns n a → ValidColumn finish meaning storage columns n a
-valid_column finish meaning shown storage columns n a d = record {
+pub valid_column : {E : Type 0} (law : RowLaw E) (columns : List Array) (n : ℕ) (a : Array) → DenseColumn law columns n a → ValidColumn law columns n a
+valid_column law columns n a d = record {
   stored = d.stored;
   counted = d.counted;
   each = λ i cells h k. record {
     cell = (d.each i h).cell;
     evidence = (d.each i h).evidence;
     is = (d.each i h).is;
-    outcome_is = ap meaning (sym (d.full i cells k)) ∙ (d.each i h).outcome_is;
+    outcome_is = ap law.meaning (sym (d.full i cells k)) ∙ (d.each i h).outcome_is;
     accepted = (d.each i h).accepted;
   };
+  read = d.read;
 }
 
 full_is_some : (i : ℕ) (arrays : List Array) → FullAt i arrays → is_some (full_cells arrays i) ≡ true
@@ -70,7 +71,7 @@ full_is_some i (a ∷ arrays) h = both_some (row a i) (full_cells arrays i) h.1 
     both_some None rest p q = absurd (cc)
 
 -- how many of n truth values are true, where all are and where none is
-trues_all : (f : ℕ → Bool) (n : ℕ) → ((i : ℕ) → i < n → f i ≡ true) → trues (tabulate f n) ≡ n
+pub trues_all : (f : ℕ → Bool) (n : ℕ) → ((i : ℕ) → i < n → f i ≡ true) → trues (tabulate f n) ≡ n
 trues_all f zero h = refl
 trues_all f (suc n) h = true_first (f 0) (tabulate (λ i. f (suc i)) n) (h 0 (omega arith)) ∙ ap suc (trues_all (λ i. f (suc i)) n (λ i b. h (suc i) (omega (arith, b))))
   where
@@ -78,7 +79,7 @@ trues_all f (suc n) h = true_first (f 0) (tabulate (λ i. f (suc i)) n) (h 0 (om
     true_first true bits e = refl
     true_first false bits e = absurd (cc)
 
-trues_none : (f : ℕ → Bool) (n : ℕ) → ((i : ℕ) → i < n → f i ≡ false) → trues (tabulate f n) ≡ 0
+pub trues_none : (f : ℕ → Bool) (n : ℕ) → ((i : ℕ) → i < n → f i ≡ false) → trues (tabulate f n) ≡ 0
 trues_none f zero h = refl
 trues_none f (suc n) h = false_first (f 0) (tabulate (λ i. f (suc i)) n) (h 0 (omega arith)) ∙ trues_none (λ i. f (suc i)) n (λ i b. h (suc i) (omega (arith, b)))
   where
@@ -87,7 +88,7 @@ trues_none f (suc n) h = false_first (f 0) (tabulate (λ i. f (suc i)) n) (h 0 (
     false_first true bits e = absurd (cc)
 
 -- marks that are told at each row
-marks_are : (f : ℕ → Bool) (n : ℕ) (marks : List Bool) → length marks ≡ n → ((i : ℕ) → i < n → bit marks i ≡ f i) → tabulate f n ≡ marks
+pub marks_are : (f : ℕ → Bool) (n : ℕ) (marks : List Bool) → length marks ≡ n → ((i : ℕ) → i < n → bit marks i ≡ f i) → tabulate f n ≡ marks
 marks_are f zero [] l h = refl
 marks_are f zero (b ∷ marks) l h = absurd (omega (arith, l))
 marks_are f (suc n) [] l h = absurd (omega (arith, l))

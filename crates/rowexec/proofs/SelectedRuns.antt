@@ -1,16 +1,12 @@
 -- What ran of a selection, told of the columns of the call.
-use Rattle.std.proofs.Common.{◌≡◌, ◌≤◌, ℕ, Bool, List, arith, Option, Some, Result, Ok, Err, ◌⊎◌, inl, inr, sym, subst}
+use Rattle.std.proofs.Common.{◌≡◌, ◌≤◌, ℕ, List, arith, Option, Some, Result, Ok, Err, inl, inr, sym, subst}
 use Rattle.std.specs.Prelude.{IfErr, IfOk, MatchOption, MatchResult}
 use Rattle.colbase.specs.Arrays.{Array}
-use Rattle.coltypes.specs.Cell.{Cell}
 use Rattle.coltypes.specs.LogicalType.{LogicalType}
 use Rattle.coltypes.specs.declared.fault.Fault.{Fault}
-use Rattle.rowtypes.specs.Rows.{DecodeFails}
-use Rattle.rowplan.specs.Outcomes.{Outcome}
-use Rattle.rowexec.specs.Evidence.{EvidenceFails, joined}
-use Rattle.rowexec.specs.Reads.{ReadFails}
-use Rattle.rowexec.specs.Rows.{full_cells, types_of}
-use Rattle.rowexec.specs.Visits.{DenseColumn, RanRows, ValidColumn}
+use Rattle.rowplan.specs.Law.{RowLaw}
+use Rattle.rowexec.specs.Rows.{types_of}
+use Rattle.rowexec.specs.Visits.{CallFails, DenseColumn, RanRows, ValidColumn, VisitFails}
 use Rattle.rowexec.proofs.Selected.{valid_column}
 use Rattle.rowexec.proofs.Unread.{ran_weaker, read_fails}
 
@@ -42,14 +38,10 @@ pub if_failed : {X : Type 0} (r : Result X Fault) (P : Type 0) → P → IfErr r
 if_failed (Ok x) P h = tt
 if_failed (Err e) P h = h
 
-module _ {E : Type 0} (finish : E → Option ℕ) (join : E → E → E) (neutral : E) (meaning : List LogicalType → List Cell → Outcome E) (deferred : List LogicalType → Bool) (storage : List LogicalType → Option LogicalType) (reads : List LogicalType → ℕ → Cell → Type 0) where
-  -- why n rows of these columns fail
-  abbrev pub RowsFail : List Array → ℕ → Fault → Type 0
-  RowsFail columns n e = ReadFails (reads (types_of columns)) 0 columns e ⊎ EvidenceFails (deferred (types_of columns)) finish (joined join neutral (meaning (types_of columns)) (full_cells columns) n) e
-
+module _ {E : Type 0} (law : List LogicalType → RowLaw E) where
   -- k rows of these columns, of n rows, ran
   abbrev pub Ran : ℕ → List Array → ℕ → Result Array Fault → ℕ → ℕ → Type 0
-  Ran k columns n = RanRows k (ValidColumn finish (meaning (types_of columns)) (storage (types_of columns)) columns n) (RowsFail columns n)
+  Ran k columns n = RanRows k (ValidColumn (law (types_of columns)) columns n) (CallFails (law (types_of columns)) columns n)
 
   pub ran_of_call : (xs ys : List Array) (m n k : ℕ) (answer : Result Array Fault) (prepares steps : ℕ) → xs ≡ ys → m ≡ n → Ran k xs m answer prepares steps → Ran k ys n answer prepares steps
   ran_of_call xs ys m n k answer prepares steps e f ran =
@@ -57,15 +49,13 @@ module _ {E : Type 0} (finish : E → Option ℕ) (join : E → E → E) (neutra
       let ByRows : ℕ → Type 0 = λ r. Ran k ys r answer prepares steps in
       subst ByRows f (subst ByColumns e ran)
 
-  pub dense_of_call : (shown : List LogicalType → ℕ → Array → ℕ → Cell) (xs ys : List Array) (m n k : ℕ) (answer : Result Array Fault) (prepares steps : ℕ) → xs ≡ ys → m ≡ n
-      → RanRows k (DenseColumn finish (meaning (types_of xs)) (shown (types_of xs)) (storage (types_of xs)) xs m) (λ e. DecodeFails (reads (types_of xs)) 0 xs e ⊎ EvidenceFails (deferred (types_of xs)) finish (joined join neutral (meaning (types_of xs)) (full_cells xs) m) e) answer prepares steps → Ran k ys n answer prepares steps
-  dense_of_call shown xs ys m n k answer prepares steps e f ran =
-      let types = types_of xs in
-      let Given : Fault → Type 0 = λ v. DecodeFails (reads types) 0 xs v ⊎ EvidenceFails (deferred types) finish (joined join neutral (meaning types) (full_cells xs) m) v in
-      let fails : (v : Fault) → Given v → RowsFail xs m v = λ v h. elim h [
-        | inl d ↦ inl (read_fails (reads types) 0 xs v d)
+  pub dense_of_call : (xs ys : List Array) (m n k : ℕ) (answer : Result Array Fault) (prepares steps : ℕ) → xs ≡ ys → m ≡ n
+      → RanRows k (DenseColumn (law (types_of xs)) xs m) (VisitFails (law (types_of xs)) xs m) answer prepares steps → Ran k ys n answer prepares steps
+  dense_of_call xs ys m n k answer prepares steps e f ran =
+      let own = law (types_of xs) in
+      let fails : (v : Fault) → VisitFails own xs m v → CallFails own xs m v = λ v h. elim h [
+        | inl d ↦ inl (read_fails own.arguments.reads 0 xs v d)
         | inr r ↦ inr r
       ] in
       ran_of_call xs ys m n k answer prepares steps e f
-      (ran_weaker k (DenseColumn finish (meaning types) (shown types) (storage types) xs m) (ValidColumn finish (meaning types) (storage types) xs m) Given (RowsFail xs m) answer prepares steps
-      (valid_column finish (meaning types) (shown types) (storage types) xs m) fails ran)
+      (ran_weaker k (DenseColumn own xs m) (ValidColumn own xs m) (VisitFails own xs m) (CallFails own xs m) answer prepares steps (valid_column own xs m) fails ran)

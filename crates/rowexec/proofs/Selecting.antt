@@ -1,17 +1,15 @@
 -- The rows of a batch that run, by their marks.
-use Rattle.std.proofs.Common.{◌≡◌, ◌∙◌, ℕ, zero, suc, ◌<◌, ◌≤◌, Bool, true, false, List, [], ◌∷◌, length, Option, None, Some, arith, ◌⊎◌, inl, inr, refl, sym}
-use Rattle.std.specs.Prelude.{is_some, IsSome}
+use Rattle.std.proofs.Common.{◌≡◌, ◌∙◌, ℕ, zero, suc, ◌<◌, ◌≤◌, Bool, true, false, List, [], ◌∷◌, length, arith, ◌⊎◌, inl, inr, refl, sym}
+use Rattle.std.specs.Prelude.{is_some}
 use Rattle.bitlane.specs.Bits.{bit}
-use Rattle.colbase.specs.Arrays.{Array, row}
-use Rattle.coltypes.specs.Cell.{Cell}
+use Rattle.colbase.specs.Arrays.{Array}
 use Rattle.coltypes.specs.Keep.{trues}
 use Rattle.coltypes.specs.Valid.{valid_at}
 use Rattle.coltypes.specs.declared.validity.Validity.{Validity}
 use Rattle.rowplan.specs.declared.batch_plan.RowPolicy.{RowPolicy}
 use Rattle.rowexec.specs.Counts.{one_row, runs_valid_only}
-use Rattle.rowexec.specs.Rows.{EachHasRows, full_cells, with_cell}
+use Rattle.rowexec.specs.Rows.{EachHasRows, full_cells}
 use Rattle.rowexec.specs.Selections.{Selected, SelectedValid}
-use Rattle.rowexec.specs.Visits.{FullAt}
 use Rattle.rowexec.proofs.Reading.{full_at}
 use Rattle.rowexec.specs.declared.batch.selection.Selection.{Selection}
 use Rattle.rowexec.specs.declared.batch.selection.Selection.TheVariants as s

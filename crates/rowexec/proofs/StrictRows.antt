@@ -1,24 +1,23 @@
 -- From dense values to the rows and the type that a batch answers.
-use Rattle.std.proofs.Common.{◌≡◌, ◌∙◌, ℕ, suc, Bool, true, false, List, [], ◌∷◌, length, Option, None, Some, refl, ap, sym}
+use Rattle.std.proofs.Common.{◌≡◌, ◌∙◌, ℕ, suc, Bool, true, false, List, [], ◌∷◌, Option, None, Some, refl, ap, sym}
 use Rattle.std.specs.Prelude.{is_some, cond, ◌==◌}
 use Rattle.std.proofs.Common.{arith}
 use Rattle.std.proofs.lemmas.Bool.Decides.{nat_tests}
 use Rattle.colbase.specs.Arrays.{Array, dtype, len}
 use Rattle.coltypes.specs.Cell.{Cell}
 use Rattle.coltypes.specs.LogicalType.{LogicalType, bool, binary, extension, fixed_size_list, list, null, nullability_of, primitive, utf8, with_nullability}
-use Rattle.coltypes.specs.declared.dtype.DType.{DType}
 use Rattle.coltypes.specs.declared.dtype.Nullability.TheVariants.{Nullable, NonNullable}
 use Rattle.coltypes.specs.declared.fault.Fault.{Fault}
-use Rattle.rowtypes.specs.Rows.{AcceptsFrom, first_refused, logical_types}
-use Rattle.rowplan.specs.Outcomes.{Outcome}
+use Rattle.rowtypes.specs.Rows.{AcceptsFrom, first_refused}
+use Rattle.rowplan.specs.Law.{RowLaw}
 use Rattle.rowplan.specs.Outputs.{InOrder, any_nullable, made_nullable, output_type, stated_type}
 use Rattle.rowexec.specs.Masks.{null_unless}
 use Rattle.rowexec.specs.Rows.{Accepted, EachHasRows, StrictRow, types_of, wrong_length}
 use Rattle.rowexec.proofs.Masking.{nullable_made}
 
-pub strict_row : {E : Type 0} (finish : E → Option ℕ) (meaning : List Cell → Outcome E) (cells : Option (List Cell)) (b : Bool) (r w : Option Cell) → b ≡ is_some cells → r ≡ null_unless b w → ((cs : List Cell) → cells ≡ Some cs → Accepted finish (meaning cs) w) → StrictRow finish meaning cells r
-strict_row finish meaning None b r w hb hr d = hr ∙ ap (λ t. null_unless t w) hb
-strict_row finish meaning (Some cs) b r w hb hr d = record {
+pub strict_row : {E : Type 0} (law : RowLaw E) (cells : Option (List Cell)) (b : Bool) (r w : Option Cell) → b ≡ is_some cells → r ≡ null_unless b w → ((cs : List Cell) → cells ≡ Some cs → Accepted law cs w) → StrictRow law cells r
+strict_row law None b r w hb hr d = hr ∙ ap (λ t. null_unless t w) hb
+strict_row law (Some cs) b r w hb hr d = record {
   cell = (d cs refl).cell;
   evidence = (d cs refl).evidence;
   is = hr ∙ ap (λ t. null_unless t w) hb ∙ (d cs refl).is;
@@ -26,9 +25,9 @@ strict_row finish meaning (Some cs) b r w hb hr d = record {
   accepted = (d cs refl).accepted;
 }
 
-pub null_row : {E : Type 0} (finish : E → Option ℕ) (meaning : List Cell → Outcome E) (cells : Option (List Cell)) (r : Option Cell) → cells ≡ None → r ≡ None → StrictRow finish meaning cells r
-null_row finish meaning None r e h = h
-null_row finish meaning (Some cs) r e h = absurd (cc)
+pub null_row : {E : Type 0} (law : RowLaw E) (cells : Option (List Cell)) (r : Option Cell) → cells ≡ None → r ≡ None → StrictRow law cells r
+null_row law None r e h = h
+null_row law (Some cs) r e h = absurd (cc)
 
 accepted_both : (b : Bool) (rest : Option ℕ) (k : ℕ) → cond b rest (Some k) ≡ None → (b ≡ true) × (rest ≡ None)
 accepted_both true rest k h = (refl, h)

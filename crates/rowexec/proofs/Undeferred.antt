@@ -4,8 +4,8 @@ use Rattle.std.specs.Prelude.{◌⊎◌, MatchResult, Result, Ok, Err}
 use Rattle.bitlane.specs.Evidence.{JoinLaws}
 use Rattle.colbase.specs.Arrays.{Array}
 use Rattle.coltypes.specs.Cell.{Cell}
-use Rattle.coltypes.specs.LogicalType.{LogicalType}
 use Rattle.coltypes.specs.declared.fault.Fault.{Fault}
+use Rattle.rowplan.specs.Law.{RowLaw}
 use Rattle.rowplan.specs.Outcomes.{EvidenceIs, Outcome, done, failed}
 use Rattle.rowexec.specs.Evidence.{EvidenceFails, evidence_of, joined, joined_with, shown_cells}
 use Rattle.rowexec.specs.Visits.{Attempted, DenseColumn, RanRows}
@@ -31,25 +31,25 @@ no_evidence_fails deferred finish evidence e d h =
     absurd (cc)
 
 -- what a visit of all rows answered, as an attempt
-pub ran_accepted : {E : Type 0} (in_range : E → Type 0) (deferred : Bool) (finish : E → Option ℕ) (join : E → E → E) (neutral : E) (meaning : List Cell → Outcome E) (shown : ℕ → Array → ℕ → Cell) (storage : Option LogicalType) (columns : List Array) (n : ℕ) (Decodes : Fault → Type 0) (evidence : E) (told : Result Array Fault) (answer : Result DenseAttempt Fault) (told_prepares told_steps prepares steps : ℕ)
-    → JoinLaws E in_range join neutral → finish neutral ≡ None → ((of : List Cell) → EvidenceIs (λ e. e ≡ neutral) (meaning of)) → deferred ≡ false
+pub ran_accepted : {E : Type 0} (in_range : E → Type 0) (law : RowLaw E) (columns : List Array) (n : ℕ) (Decodes : Fault → Type 0) (evidence : E) (told : Result Array Fault) (answer : Result DenseAttempt Fault) (told_prepares told_steps prepares steps : ℕ)
+    → JoinLaws E in_range law.join law.neutral → law.finish law.neutral ≡ None → ((of : List Cell) → EvidenceIs (λ e. e ≡ law.neutral) (law.meaning of)) → law.deferred ≡ false
     → MatchResult told (λ a. answer ≡ Ok (Values a)) (λ e. answer ≡ Err e) → prepares ≡ told_prepares → steps ≡ told_steps
-    → RanRows n (DenseColumn finish meaning shown storage columns n) (λ e. Decodes e ⊎ EvidenceFails deferred finish evidence e) told told_prepares told_steps
-    → RanRows n (Attempted deferred finish join neutral meaning shown storage columns n) Decodes answer prepares steps
-ran_accepted {E} in_range deferred finish join neutral meaning shown storage columns n Decodes evidence (Ok a) answer told_prepares told_steps prepares steps laws accepts quiet d same p s ran =
-    let Given : Result DenseAttempt Fault → ℕ → ℕ → Type 0 = RanRows n (Attempted deferred finish join neutral meaning shown storage columns n) Decodes in
+    → RanRows n (DenseColumn law columns n) (λ e. Decodes e ⊎ EvidenceFails law.deferred law.finish evidence e) told told_prepares told_steps
+    → RanRows n (Attempted law columns n) Decodes answer prepares steps
+ran_accepted {E} in_range law columns n Decodes evidence (Ok a) answer told_prepares told_steps prepares steps laws accepts quiet d same p s ran =
+    let Given : Result DenseAttempt Fault → ℕ → ℕ → Type 0 = RanRows n (Attempted law columns n) Decodes in
     let here : Given (Ok (Values a)) told_prepares told_steps = record {
-      answered = (ran.answered, ap finish (joined_nothing in_range join neutral meaning (shown_cells shown columns) n laws quiet) ∙ accepts);
+      answered = (ran.answered, ap law.finish (joined_nothing in_range law.join law.neutral law.meaning (shown_cells law.arguments.shown columns) n laws quiet) ∙ accepts);
       prepared = ran.prepared;
       most = ran.most;
       least = ran.least;
     } in
     rw same (rw p (rw s here))
-ran_accepted {E} in_range deferred finish join neutral meaning shown storage columns n Decodes evidence (Err e) answer told_prepares told_steps prepares steps laws accepts quiet d same p s ran =
-    let Given : Result DenseAttempt Fault → ℕ → ℕ → Type 0 = RanRows n (Attempted deferred finish join neutral meaning shown storage columns n) Decodes in
+ran_accepted {E} in_range law columns n Decodes evidence (Err e) answer told_prepares told_steps prepares steps laws accepts quiet d same p s ran =
+    let Given : Result DenseAttempt Fault → ℕ → ℕ → Type 0 = RanRows n (Attempted law columns n) Decodes in
     let fails : Decodes e = elim ran.answered [
       | inl h ↦ h
-      | inr h ↦ absurd (no_evidence_fails deferred finish evidence e d h)
+      | inr h ↦ absurd (no_evidence_fails law.deferred law.finish evidence e d h)
     ] in
     let here : Given (Err e) told_prepares told_steps = record {
       answered = fails;

@@ -1,5 +1,5 @@
 -- Why a batch is not read, from why its columns are not decoded.
-use Rattle.std.proofs.Common.{◌≡◌, ◌∙◌, ◌≤◌, ℕ, suc, List, [], ◌∷◌, Option, Some, Result, Ok, Err, ap, inl, inr, subst, sym}
+use Rattle.std.proofs.Common.{◌≡◌, ◌∙◌, ◌≤◌, ℕ, suc, Bool, List, [], ◌∷◌, Option, Some, Result, Ok, Err, ap, inl, inr, subst, sym}
 use Rattle.std.specs.Prelude.{IfOk, IfSome, MatchOption, MatchResult}
 use Rattle.std.proofs.lemmas.Result.{MatchResult-weaker}
 use Rattle.colbase.specs.Arrays.{Array}
@@ -28,8 +28,8 @@ ran_weaker n Gives Given Fails Failed answer prepares steps f g ran = record {
 }
 
 -- a run that may decline, and did not
-pub ran_through : (n : ℕ) (Gives : Array → Type 0) (Fails : Fault → Type 0) (told : Result (Option Array) Fault) (o : Option Array) (a : Array) (answer : Result Array Fault) (prepares steps : ℕ) → RanOrDeclined n Gives Fails told prepares steps → told ≡ Ok o → o ≡ Some a → answer ≡ Ok a → RanRows n Gives Fails answer prepares steps
-ran_through n Gives Fails told o a answer prepares steps ran is some same =
+pub ran_through : (tolerant : Bool) (n : ℕ) (Gives : Array → Type 0) (Fails : Fault → Type 0) (told : Result (Option Array) Fault) (o : Option Array) (a : Array) (answer : Result Array Fault) (prepares steps : ℕ) → RanOrDeclined tolerant n Gives Fails told prepares steps → told ≡ Ok o → o ≡ Some a → answer ≡ Ok a → RanRows n Gives Fails answer prepares steps
+ran_through tolerant n Gives Fails told o a answer prepares steps ran is some same =
     let whole : told ≡ Ok (Some a) = is ∙ ap Ok some in
     let Told : Result (Option Array) Fault → Type 0 = λ r. MatchResult r (λ x. MatchOption x ((prepares ≡ 0) × (steps ≡ 0)) Gives) Fails in
     let Counts : Result (Option Array) Fault → Type 0 = λ r. IfOk r (λ x. IfSome x (λ b. n ≤ steps)) in
@@ -42,8 +42,8 @@ ran_through n Gives Fails told o a answer prepares steps ran is some same =
       least = subst Least (sym same) (subst Counts whole ran.least);
     }
 
-pub ran_refused : (n : ℕ) (Gives : Array → Type 0) (Fails : Fault → Type 0) (told : Result (Option Array) Fault) (e : Fault) (answer : Result Array Fault) (prepares steps : ℕ) → RanOrDeclined n Gives Fails told prepares steps → told ≡ Err e → answer ≡ Err e → RanRows n Gives Fails answer prepares steps
-ran_refused n Gives Fails told e answer prepares steps ran is same =
+pub ran_refused : (tolerant : Bool) (n : ℕ) (Gives : Array → Type 0) (Fails : Fault → Type 0) (told : Result (Option Array) Fault) (e : Fault) (answer : Result Array Fault) (prepares steps : ℕ) → RanOrDeclined tolerant n Gives Fails told prepares steps → told ≡ Err e → answer ≡ Err e → RanRows n Gives Fails answer prepares steps
+ran_refused tolerant n Gives Fails told e answer prepares steps ran is same =
     let Told : Result (Option Array) Fault → Type 0 = λ r. MatchResult r (λ x. MatchOption x ((prepares ≡ 0) × (steps ≡ 0)) Gives) Fails in
     let Given : Result Array Fault → Type 0 = λ r. MatchResult r Gives Fails in
     let Least : Result Array Fault → Type 0 = λ r. IfOk r (λ b. n ≤ steps) in

@@ -1,9 +1,8 @@
 -- How many rows a batch runs, by its layouts and its policy. No contract can count the calls of a callback; these are the counts that
 -- the loops tell.
-use Rattle.std.specs.Prelude.{ℕ, ◌+◌, Option, Bool, ◌&&◌, ◌||◌, ◌==◌, true, false, List, [], ◌∷◌, nat_lt, is_some, if◌then◌else◌}
+use Rattle.std.specs.Prelude.{ℕ, ◌+◌, Bool, ◌&&◌, ◌||◌, ◌==◌, true, false, List, [], ◌∷◌, nat_lt, is_some, if◌then◌else◌}
 use Rattle.bitlane.specs.Bits.{tabulate}
 use Rattle.colbase.specs.Arrays.{Array}
-use Rattle.coltypes.specs.Cell.{Cell}
 use Rattle.coltypes.specs.Keep.{trues}
 use Rattle.colbase.specs.Parts.{own_validity}
 use Rattle.coltypes.specs.Valid.{validity_kind}
@@ -12,7 +11,7 @@ use Rattle.coltypes.specs.declared.validity.ValidityKind.TheVariants.{AllNull, N
 use Rattle.rowelems.specs.Shown.{batch_value}
 use Rattle.rowplan.specs.declared.batch_plan.RowPolicy.{RowPolicy}
 use Rattle.rowplan.specs.declared.batch_plan.RowPolicy.TheVariants.{Dense, DenseWithRetry, ValidOnly}
-use Rattle.rowplan.specs.Outcomes.{Outcome}
+use Rattle.rowplan.specs.Law.{RowLaw}
 use Rattle.rowexec.specs.Evidence.{is_accepted, joined, shown_cells}
 use Rattle.rowexec.specs.Rows.{full_cells, some_all_null}
 
@@ -58,11 +57,13 @@ policy_steps ValidOnly accepted n columns = trues (full_bits n columns)
 
 -- the rows that a batch of n rows runs: none where some column is told to be null at each row, one where one stands for all, and else those of the policy
 abbrev pub steps_asked : RowPolicy → Bool → ℕ → List Array → ℕ
-steps_asked policy accepted n columns = if some_all_null columns then 0 else if one_row n columns then 1 else policy_steps policy accepted n columns
+steps_asked policy accepted n columns =
+    if some_all_null columns then 0 else if one_row n columns then 1 else policy_steps policy accepted n columns
 
 -- whether the evidence of a run of all n rows on what the columns show is accepted
-abbrev pub dense_accepted : {E : Type 0} → (E → Option ℕ) → (E → E → E) → E → (List Cell → Outcome E) → (ℕ → Array → ℕ → Cell) → List Array → ℕ → Bool
-dense_accepted finish join neutral meaning shown columns n = is_accepted (finish (joined join neutral meaning (shown_cells shown columns) n))
+abbrev pub dense_accepted : {E : Type 0} → RowLaw E → List Array → ℕ → Bool
+dense_accepted law columns n =
+    is_accepted (law.finish (joined law.join law.neutral law.meaning (shown_cells law.arguments.shown columns) n))
 
 -- the calls of `prepare` at most
 abbrev pub most_prepares : RowPolicy → ℕ
@@ -73,3 +74,10 @@ most_prepares ValidOnly = 1
 -- nothing is decoded: some column is told to be null at each row, or the policy runs the rows without a null alone and none of the rows is such
 abbrev pub settled : RowPolicy → ℕ → List Array → Bool
 settled policy n columns = some_all_null columns || (runs_valid_only policy && (nat_lt 0 n && (trues (full_bits n columns) == 0)))
+
+-- the rows that a policy runs of a call, and those that the whole call runs
+abbrev pub policy_steps_of : {E : Type 0} → RowLaw E → List Array → ℕ → ℕ
+policy_steps_of law columns n = policy_steps law.policy (dense_accepted law columns n) n columns
+
+abbrev pub steps_of : {E : Type 0} → RowLaw E → List Array → ℕ → ℕ
+steps_of law columns n = steps_asked law.policy (dense_accepted law columns n) n columns

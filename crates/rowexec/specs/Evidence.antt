@@ -1,12 +1,14 @@
 -- Evidence that is joined over the rows of a batch, and what is told where it isn't accepted: which rows are joined decides which
 -- failures a caller sees.
-use Rattle.std.specs.Prelude.{◌≡◌, ℕ, zero, suc, Bool, true, false, List, Option, None, Some}
+use Rattle.std.specs.Prelude.{◌≡◌, ◌≢◌, ◌<◌, ⊤, ℕ, zero, suc, Bool, true, false, List, Option, None, Some}
 use Rattle.colbase.specs.Arrays.{Array}
 use Rattle.coltypes.specs.Cell.{Cell}
 use Rattle.coltypes.specs.declared.fault.Fault.{Fault}
 use Rattle.coltypes.specs.declared.fault.Fault.TheVariants.{Row}
 use Rattle.rowtypes.specs.Rows.{shown_from}
+use Rattle.rowplan.specs.Law.{RowLaw}
 use Rattle.rowplan.specs.Outcomes.{Outcome, done, failed}
+use Rattle.rowexec.specs.Rows.{full_cells}
 
 -- the evidence of an outcome; that of an error is neutral
 abbrev pub evidence_of : {E : Type 0} → E → Outcome E → E
@@ -37,3 +39,20 @@ pub record EvidenceFails {E : Type 0} (deferred : Bool) (finish : E → Option �
   pub is_deferred : deferred ≡ true
   pub judged : finish evidence ≡ Some code
   pub is : e ≡ Row (record { 0 = code })
+
+-- the full rows below n fail: their joined evidence isn't accepted
+abbrev pub RowsFail : {E : Type 0} → RowLaw E → List Array → ℕ → Fault → Type 0
+RowsFail law columns n = EvidenceFails law.deferred law.finish (joined law.join law.neutral law.meaning (full_cells columns) n)
+
+-- an outcome that is an error, or whose evidence isn't accepted
+abbrev pub OutcomeFails : {E : Type 0} → (E → Option ℕ) → Outcome E → Type 0
+OutcomeFails finish (done c e) = finish e ≢ None
+OutcomeFails finish (failed code) = ⊤
+
+-- some row below n without a null argument fails
+pub record FailingRow {E : Type 0} (law : RowLaw E) (columns : List Array) (n : ℕ) : Type 0 where
+  pub place : ℕ
+  pub below : place < n
+  pub cells : List Cell
+  pub full : full_cells columns place ≡ Some cells
+  pub fails : OutcomeFails law.finish (law.meaning cells)

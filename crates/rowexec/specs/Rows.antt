@@ -1,6 +1,6 @@
 -- What a batch call means, row by row: the strict lifting of the meaning of a row. Whatever is stored under a null has no part in it.
 use Rattle.std.specs.Prelude.{◌≡◌, ℕ, suc, ◌==◌, Bool, ◌||◌, true, false, List, [], ◌∷◌, Option, None, Some, ⊤, if◌then◌else◌}
-use Rattle.colbase.specs.Arrays.{Array, dtype, len, row}
+use Rattle.colbase.specs.Arrays.{Array, constant, dtype, len, row}
 use Rattle.coltypes.specs.Cell.{Cell}
 use Rattle.coltypes.specs.LogicalType.{LogicalType}
 use Rattle.colbase.specs.Parts.{own_validity}
@@ -9,7 +9,8 @@ use Rattle.coltypes.specs.declared.fault.Fault.{Fault}
 use Rattle.coltypes.specs.declared.fault.Fault.TheVariants.{InputLength}
 use Rattle.coltypes.specs.declared.validity.ValidityKind.{ValidityKind}
 use Rattle.coltypes.specs.declared.validity.ValidityKind.TheVariants.{AllNull, NoNulls, MayHoldNulls}
-use Rattle.rowplan.specs.Outcomes.{Outcome, done}
+use Rattle.rowplan.specs.Law.{RowLaw}
+use Rattle.rowplan.specs.Outcomes.{done}
 
 abbrev pub types_of : List Array → List LogicalType
 types_of [] = []
@@ -45,14 +46,19 @@ some_all_null [] = false
 some_all_null (a ∷ arrays) = is_all_null (validity_kind (own_validity a)) || some_all_null arrays
 
 -- a cell whose outcome is done, with evidence that is accepted
-pub record Accepted {E : Type 0} (finish : E → Option ℕ) (outcome : Outcome E) (row : Option Cell) : Type 0 where
+pub record Accepted {E : Type 0} (law : RowLaw E) (cells : List Cell) (row : Option Cell) : Type 0 where
   pub cell : Cell
   pub evidence : E
   pub is : row ≡ Some cell
-  pub outcome_is : outcome ≡ done cell evidence
-  pub accepted : finish evidence ≡ None
+  pub outcome_is : law.meaning cells ≡ done cell evidence
+  pub accepted : law.finish evidence ≡ None
 
 -- a row of the answer: null where some argument is null, and else the meaning of the cells there
-abbrev pub StrictRow : {E : Type 0} → (E → Option ℕ) → (List Cell → Outcome E) → Option (List Cell) → Option Cell → Type 0
-StrictRow finish meaning None r = r ≡ None
-StrictRow finish meaning (Some cells) r = Accepted finish (meaning cells) r
+abbrev pub StrictRow : {E : Type 0} → RowLaw E → Option (List Cell) → Option Cell → Type 0
+StrictRow law None r = r ≡ None
+StrictRow law (Some cells) r = Accepted law cells r
+
+-- one value stands for all rows of the array
+abbrev pub IsConstant : Array → Type 0
+IsConstant (constant s n) = ⊤
+IsConstant _ = ⊥

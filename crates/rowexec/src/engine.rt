@@ -7,13 +7,11 @@ use rowplan::RowFn;
 
 /// Who executes row functions for a program, so that a contract sees that it is called.
 pub trait RowEngine {
-    ghost use Rattle.std.specs.Prelude.{◌≢◌, ◌<◌, length, Err, IfOk, IfErr};
-    ghost use Rattle.colbase.specs.Arrays.{dtype, len, row};
-    ghost use Rattle.coltypes.specs.declared.fault.Fault.TheVariants.{Arity};
-    ghost use Rattle.rowexec.specs.Batch.{Cause, Fits, Planned, StatedAs};
+    ghost use Rattle.std.specs.Prelude.{◌≢◌, ◌<◌};
+    ghost use Rattle.colbase.specs.Arrays.{row};
     ghost use Rattle.rowexec.specs.Calls.{Raised};
-    ghost use Rattle.rowexec.specs.Evidence.{EvidenceFails, joined};
-    ghost use Rattle.rowexec.specs.Rows.{StrictRow, full_cells, types_of};
+    ghost use Rattle.rowexec.specs.Rows.{types_of};
+    ghost use Rattle.rowexec.specs.Batch.{Executes};
 
     // How often it was called. It never falls, and its last value is 2^64 - 1.
     ghost calls: { Self → ℕ };
@@ -27,13 +25,7 @@ pub trait RowEngine {
         ctx: ExecutionCtx,
     ) -> Res<ArrayRef>
         ensures raised { Raised (calls self.old) (calls self.new) }
-        ensures arity { length args.now.columns ≢ F.arity → result ≡ Err (Arity F.arity (length args.now.columns)) }
-        ensures fits { IfOk result (λ _. Fits F.arity args.now.row_count args.now.columns) }
-        ensures planned { IfOk result (λ _. Planned (F.accepts options.now (types_of args.now.columns)) (F.fits options.now (types_of args.now.columns)) (F.output options.now (types_of args.now.columns)) (types_of args.now.columns)) }
-        ensures dtype { IfOk result (λ a. StatedAs (F.output options.now (types_of args.now.columns)) (types_of args.now.columns) (dtype a)) }
-        ensures len { IfOk result (λ a. len a ≡ args.now.row_count) }
-        ensures rows { IfOk result (λ a. (i : ℕ) → i < args.now.row_count → StrictRow F.finish (F.meaning options.now (types_of args.now.columns)) (full_cells args.now.columns i) (row a i)) }
-        ensures errors { IfErr result (Cause F.arity args.now.row_count args.now.columns (F.accepts options.now (types_of args.now.columns)) (F.fits options.now (types_of args.now.columns)) (F.output options.now (types_of args.now.columns)) (F.policy options.now (types_of args.now.columns)) (F.reads options.now (types_of args.now.columns)) (EvidenceFails (F.deferred options.now (types_of args.now.columns)) F.finish (joined F.Evidence.join F.Evidence.neutral (F.meaning options.now (types_of args.now.columns)) (full_cells args.now.columns) args.now.row_count))) };
+        ensures executes { Executes (F.law options.now (types_of args.now.columns)) args.now.columns args.now.row_count result };
 }
 
 /// The engine that calls [`execute_rows`], and counts its calls.

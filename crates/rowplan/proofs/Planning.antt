@@ -1,16 +1,18 @@
 -- From a plan of stated types to the plan of a call.
-use Rattle.std.proofs.Common.{◌≡◌, ◌∙◌, ℕ, Option, None, Some, Result, Ok, Err, inr, ap, sym, subst}
+use Rattle.std.proofs.Common.{◌≡◌, ◌∙◌, List, Option, None, Some, Result, Ok, Err, inr, ap, sym, subst}
 use Rattle.coltypes.specs.declared.fault.Fault.{Fault}
 use Rattle.coltypes.specs.LogicalType.{LogicalType}
+use Rattle.rowtypes.specs.Rows.{first_refused}
 use Rattle.rowplan.specs.declared.batch_plan.BatchPlan.{BatchPlan}
 use Rattle.rowplan.specs.declared.batch_plan.RowPolicy.{RowPolicy}
+use Rattle.rowplan.specs.Law.{RowLaw}
 use Rattle.rowplan.specs.Outputs.{InOrder}
 use Rattle.rowplan.specs.Plans.{Plan, Plans, PlanAnswer}
 
-pub planned_as : (r : Result BatchPlan Fault) (s : LogicalType) (told : Option LogicalType) (p q : RowPolicy) (refused : Option ℕ) (storage label : Option LogicalType) → refused ≡ None → storage ≡ Some s → label ≡ told → q ≡ p → Plans r s told p → PlanAnswer r refused storage label q
-planned_as (Ok plan) s told p q refused storage label hr hs hl hq h =
+pub planned_as : {E : Type 0} (law : RowLaw E) (types : List LogicalType) (r : Result BatchPlan Fault) (s : LogicalType) (told : Option LogicalType) (p : RowPolicy) → first_refused law.arguments.accepts 0 types ≡ None → law.output.storage ≡ Some s → law.output.label ≡ told → law.policy ≡ p → Plans r s told p → PlanAnswer law types r
+planned_as law types (Ok plan) s told p hr hs hl hq h =
     let InOrderBy : Option LogicalType → Option LogicalType → Type 0 = λ a b. InOrder a b in
-    let here : InOrder storage label = subst (λ a. InOrderBy a label) (sym hs) (subst (λ b. InOrderBy (Some s) b) (sym hl) h.0) in (
+    let here : InOrder law.output.storage law.output.label = subst (λ a. InOrderBy a law.output.label) (sym hs) (subst (λ b. InOrderBy (Some s) b) (sym hl) h.0) in (
       hr,
       record {
         in_order = here;
@@ -19,6 +21,10 @@ planned_as (Ok plan) s told p q refused storage label hr hs hl hq h =
         rows = ap (λ (x : Plan). x.policy) h.1 ∙ sym hq;
       },
     )
-planned_as (Err e) s told p q refused storage label hr hs hl hq h =
+planned_as law types (Err e) s told p hr hs hl hq h =
     let InOrderBy : Option LogicalType → Option LogicalType → Type 0 = λ a b. InOrder a b in
-    inr (inr (hr, h.0, λ o. h.1 (subst (λ b. InOrderBy (Some s) b) hl (subst (λ a. InOrderBy a label) hs o))))
+    inr (inr (record {
+      accepted = hr;
+      is = h.0;
+      out_of_order = λ o. h.1 (subst (λ b. InOrderBy (Some s) b) hl (subst (λ a. InOrderBy a law.output.label) hs o));
+    }))

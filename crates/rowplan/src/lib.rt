@@ -3,11 +3,14 @@
 #![tactic(auto)]
 
 mod batch_plan;
+mod options_form;
 mod row_fn;
 mod row_spec;
 mod visitor;
 
 pub use batch_plan::{BatchPlan, RowPolicy, is_any_nullable};
+pub use bitlane::{FailureEvidence, NoFailure};
+pub use options_form::{NoForm, OptionsForm};
 pub use row_fn::RowFn;
 pub use row_spec::RowSpec;
 pub use visitor::{BatchPlanner, RowVisitor};

@@ -67,7 +67,7 @@ fault_from : (called : Type 0) (words : List (List ℕ)) (source : Change) (t : 
 fault_from called words source t (inl (with, all)) = all
 fault_from called words source t (inr (without, kept, led)) = absurd led
 
-pub fault_written : {called : Type 0} (words : List (List ℕ)) {source : Change} {status : ℕ} {sink : Change} → Ends (HasCause (command_of words) (WordsLead called words) (Leads called) source) status sink → status ≡ 3 → TookAll source (WroteFault sink)
+pub fault_written : {called : Type 0} (words : List (List ℕ)) {source : Change} {kept : Type 0} {status : ℕ} {sink : Change} → Ends (HasCause (command_of words) (WordsLead called words) (Leads called) source) kept status sink → status ≡ 3 → TookAll source (WroteFault sink)
 fault_written {called = called} words {source = source} {sink = sink} ends is =
     let did = of_three ends is in
     let all = fault_from called words source did.0 (by_cause called words source (Fault did.0) did.1) in
@@ -83,7 +83,7 @@ done_by called words source sink t (inl (with, all)) gained =
 done_by called words source sink t (inr (without, kept, (rose, n, told, is))) gained =
     inr (n, asks words n told, kept, subst (Gained sink) is gained)
 
-pub done_written : {called : Type 0} (words : List (List ℕ)) {source : Change} {status : ℕ} {sink : Change} → Ends (HasCause (command_of words) (WordsLead called words) (Leads called) source) status sink → status ≡ 0 → IsDone words source sink
+pub done_written : {called : Type 0} (words : List (List ℕ)) {source : Change} {kept : Type 0} {status : ℕ} {sink : Change} → Ends (HasCause (command_of words) (WordsLead called words) (Leads called) source) kept status sink → status ≡ 0 → IsDone words source sink
 done_written {called = called} words {source = source} {sink = sink} ends is =
     let did = of_zero ends is in
     done_by called words source sink did.0 (by_cause called words source (Printed did.0) did.1) did.2
@@ -93,7 +93,7 @@ printed_called called words source sink t (inl (with, all)) gained =
     of_took source (λ bytes. Leads called bytes (Printed t)) called (λ bytes h. (result_led called sink bytes (t, h, gained)).rose) all
 printed_called called words source sink t (inr (without, kept, (rose, n, told, is))) gained = rose
 
-pub was_called : {called : Type 0} (words : List (List ℕ)) {source : Change} {status : ℕ} {sink : Change} → Ends (HasCause (command_of words) (WordsLead called words) (Leads called) source) status sink → (status ≡ 0) ⊎ (status ≡ 3) → called
+pub was_called : {called : Type 0} (words : List (List ℕ)) {source : Change} {kept : Type 0} {status : ℕ} {sink : Change} → Ends (HasCause (command_of words) (WordsLead called words) (Leads called) source) kept status sink → (status ≡ 0) ⊎ (status ≡ 3) → called
 was_called {called = called} words {source = source} {sink = sink} ends (inl zero) =
     let did = of_zero ends zero in
     printed_called called words source sink did.0 (by_cause called words source (Printed did.0) did.1) did.2
@@ -135,14 +135,14 @@ generates_by {sink = sink} n reply is (whole so gained) =
 generates_by {sink = sink} n reply is (cut_short six failed prefix proper gained) =
     cut six is.rose is.kept failed prefix (subst (IsProperPrefix prefix) is.text_is proper) gained
 
-pub generates : {called : Type 0} (words : List (List ℕ)) {source : Change} {status : ℕ} {sink : Change} → Ends (HasCause (command_of words) (WordsLead called words) (Leads called) source) status sink → (n : ℕ) → IsGen words n → Generates called n status source sink
-generates {called = called} words {source = source} (wrote reply cause written) n gen =
+pub generates : {called : Type 0} (words : List (List ℕ)) {source : Change} {kept : Type 0} {status : ℕ} {sink : Change} → Ends (HasCause (command_of words) (WordsLead called words) (Leads called) source) kept status sink → (kept → IsUntouched source) → (n : ℕ) → IsGen words n → Generates called n status source sink
+generates {called = called} words {source = source} (wrote reply cause written) if_kept n gen =
     let so = asked words n gen in
     generates_by n reply (summarised called words source n reply so (of_gen words n so) cause) written
-generates words (no_memory four kept) n gen = memory four kept
+generates words (no_memory four kept untouched) if_kept n gen = memory four (if_kept kept) untouched
 
 pub steady_generates : {called : Type 0} {source : Change} {status : ℕ} {sink : Change} (n : ℕ) → Generates called n status source sink → IsSteady sink → (status ≡ 0) ⊎ (status ≡ 4)
 steady_generates n (printed zero rose kept gained) steady = inl zero
-steady_generates n (memory four kept) steady = inr four
+steady_generates n (memory four kept untouched) steady = inr four
 steady_generates n (cut six rose kept failed prefix proper gained) steady =
     let higher = failed (omega (arith, steady.same, steady.not_last)) in absurd (omega (arith, higher, steady.same))

@@ -109,6 +109,13 @@ input_by (Some n) run e = cc
 pub run_of : (words : List (List ℕ)) → command_of words ≡ WithInput → is_run words ≡ true
 run_of words e = input_by (rows_asked words) (is_run words) e
 
+-- other words ask for no answer to the input
+pub not_input : (words : List (List ℕ)) → is_run words ≡ false → command_of words ≡ WithInput → ⊥
+not_input words never is = let impossible : true ≡ false = sym (run_of words is) ∙ never in absurd (cc)
+
+pub gen_not_input : (words : List (List ℕ)) (n : ℕ) → IsGen words n → command_of words ≡ WithInput → ⊥
+gen_not_input words n gen is = let impossible : WithInput ≡ WithoutInput = sym is ∙ of_gen words n (asked words n gen) in absurd (cc)
+
 -- ---- a word that is parsed as a number of 64 bits
 
 parsed : {E : Type 0} (word : List ℕ) (r : Result ℕ E) → ParsesUnsigned 64 10 word r → (n : ℕ) → Counts word n → r ≡ Ok n

@@ -17,10 +17,11 @@ use Rattle.colbase.specs.Faults.{Builds}
 use Rattle.coltypes.specs.Checks.{length_check}
 use Rattle.rowelems.specs.Reading.{IsNumberOf}
 use Rattle.rowtypes.specs.Rows.{first_refused}
-use Rattle.rowexec.specs.Evidence.{EvidenceFails, joined, joined_with}
+use Rattle.rowplan.specs.Constructors.{code_where, true_is_false}
+use Rattle.rowexec.specs.Evidence.{RowsFail, joined, joined_with}
 use Rattle.rowexec.specs.Reads.{UnreadAt}
 use Rattle.rowexec.specs.Rows.{full_cells, types_of, with_cell, wrong_length}
-use Rattle.rowsample.specs.Functions.{accepts_i64, checked_sums, exact_sum, is_outside, reads_i64, refused_where, true_is_false}
+use Rattle.rowsample.specs.Functions.{checked_adds, exact_sum, is_outside}
 use Rattle.rowrun.specs.Generator.{IsSmall, generated, generated_column, is_null_in, is_valid_in, left, right, stored_in, sum_at}
 use Rattle.rowrun.specs.Results.{CauseOf}
 use Rattle.rowrun.specs.declared.batch.Call.TheVariants.{CheckedAdd}
@@ -92,18 +93,18 @@ small_sums n i within = sum_small (full_cells (generated n) i) (cells_small n i 
 small_inside : (z : ℤ) → IsSmall z → is_outside z ≡ false
 small_inside z small = ap is_outside small.is ∙ ap not (lt-ltb small.size (2 ^ 63) (omega (arith, small.small)))
 
-evidence_more : (total : Bool) (cells : Option (List Cell)) → total ≡ false → SmallSum cells → joined_with ◌||◌ false checked_sums total cells ≡ false
-evidence_more total cells so (inl none) = ap (joined_with ◌||◌ false checked_sums total) none ∙ so
+evidence_more : (total : Bool) (cells : Option (List Cell)) → total ≡ false → SmallSum cells → joined_with ◌||◌ false checked_adds.meaning total cells ≡ false
+evidence_more total cells so (inl none) = ap (joined_with ◌||◌ false checked_adds.meaning total) none ∙ so
 evidence_more total cells so (inr (xs, is, small)) =
-    ap (joined_with ◌||◌ false checked_sums total) is ∙ ap (λ (b : Bool). b || is_outside (exact_sum xs)) so ∙ small_inside (exact_sum xs) small
+    ap (joined_with ◌||◌ false checked_adds.meaning total) is ∙ ap (λ (b : Bool). b || is_outside (exact_sum xs)) so ∙ small_inside (exact_sum xs) small
 
-no_evidence : (n k : ℕ) → k ≤ n → joined ◌||◌ false checked_sums (full_cells (generated n)) k ≡ false
+no_evidence : (n k : ℕ) → k ≤ n → joined ◌||◌ false checked_adds.meaning (full_cells (generated n)) k ≡ false
 no_evidence n zero within = refl
 no_evidence n (suc k) within = evidence_more _ _ (no_evidence n k (omega (arith, within))) (cells_small n k (omega (arith, within)))
 
-no_row_fails : (n : ℕ) (e : Fault) → EvidenceFails true refused_where (joined ◌||◌ false checked_sums (full_cells (generated n)) n) e → e ≡ Memory
+no_row_fails : (n : ℕ) (e : Fault) → RowsFail checked_adds (generated n) n e → e ≡ Memory
 no_row_fails n e fails =
-    let none : refused_where (joined ◌||◌ false checked_sums (full_cells (generated n)) n) ≡ None = ap refused_where (no_evidence n n (omega arith)) in
+    let none : code_where 1 (joined ◌||◌ false checked_adds.meaning (full_cells (generated n)) n) ≡ None = ap (code_where 1) (no_evidence n n (omega arith)) in
     let impossible : ◌≡◌ {A = Option ℕ} None (Some fails.code) = sym none ∙ fails.judged in absurd (cc)
 
 -- ---- each cell is read
@@ -121,7 +122,7 @@ each_read p n x some low (inl (i, within, is)) =
     cell_read (cell_in p i) p.modulus x low (cell_below p i some) (sym (row_is p n i inside) ∙ is)
 each_read p n x some low (inr (within, is)) = let impossible : ◌≡◌ {A = Option Cell} None (Some x) = is in absurd (cc)
 
-none_unread : (n j : ℕ) → UnreadAt reads_i64 0 (generated n) j → ⊥
+none_unread : (n j : ℕ) → UnreadAt checked_adds.arguments.reads 0 (generated n) j → ⊥
 unfolding generated
 none_unread n j (inl (is, unread)) =
     let some : 0 < 1000 = omega arith in
@@ -156,7 +157,7 @@ pub types_are : (n : ℕ) → types_of (generated n) ≡ primitive ptype.I64 Nul
 unfolding generated
 types_are n = refl
 
-types_taken : (n k : ℕ) → first_refused accepts_i64 0 (types_of (generated n)) ≡ Some k → ⊥
+types_taken : (n k : ℕ) → first_refused checked_adds.arguments.accepts 0 (types_of (generated n)) ≡ Some k → ⊥
 unfolding generated
 types_taken n k refused = let impossible : ◌≡◌ {A = Option ℕ} None (Some k) = refused in absurd (cc)
 
@@ -170,8 +171,9 @@ memory_alone n e (inl (inl (many, is))) = absurd (many (two_columns n))
 memory_alone n e (inl (inr (many, wrong))) = let impossible : ◌≡◌ {A = Option Fault} None (Some e) = sym (each_counted n) ∙ wrong in absurd (cc)
 memory_alone n e (inr (fits, inl is)) = is
 memory_alone n e (inr (fits, inr (inl (inl (refused, is))))) = true_is_false refused
-memory_alone n e (inr (fits, inr (inl (inr (taken, inl (k, refused, is)))))) = absurd (types_taken n k refused)
-memory_alone n e (inr (fits, inr (inl (inr (taken, inr (accepted, is, disorder)))))) = absurd (disorder (refl, tt))
-memory_alone n e (inr (fits, inr (inr (planned, unsettled, inl (inl is))))) = is
-memory_alone n e (inr (fits, inr (inr (planned, unsettled, inl (inr names))))) = absurd (none_unread n names.place names.unread)
-memory_alone n e (inr (fits, inr (inr (planned, unsettled, inr fails)))) = no_row_fails n e fails
+memory_alone n e (inr (fits, inr (inl (inr (taken, inl refused))))) = absurd (types_taken n refused.place refused.first)
+memory_alone n e (inr (fits, inr (inl (inr (taken, inr disorder))))) = absurd (disorder.out_of_order (refl, tt))
+memory_alone n e (inr (fits, inr (inr (planned, inl is)))) = is
+memory_alone n e (inr (fits, inr (inr (planned, inr (unsettled, inl (inl is)))))) = is
+memory_alone n e (inr (fits, inr (inr (planned, inr (unsettled, inl (inr names)))))) = absurd (none_unread n names.place names.unread)
+memory_alone n e (inr (fits, inr (inr (planned, inr (unsettled, inr fails))))) = no_row_fails n e fails.judged

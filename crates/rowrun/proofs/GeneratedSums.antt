@@ -17,7 +17,8 @@ use Rattle.rowelems.specs.Reading.{is_integer}
 use Rattle.rowplan.specs.Outputs.{output_type, stated_type}
 use Rattle.rowplan.specs.Outcomes.{done}
 use Rattle.rowexec.specs.Rows.{Accepted, StrictRow, full_cells, types_of}
-use Rattle.rowsample.specs.Functions.{checked_sums, exact_sum, is_outside, refused_where, wrapped}
+use Rattle.rowplan.specs.Constructors.{code_where}
+use Rattle.rowsample.specs.Functions.{checked_adds, exact_sum, is_outside}
 use Rattle.rowrun.specs.Generator.{IsSmall, generated, marked_at, nulls_of, sum_at, summary, summary_text, total_of}
 use Rattle.rowrun.specs.Results.{CauseOf, IsResultOf}
 use Rattle.rowjson.specs.Shows.{Shows}
@@ -34,22 +35,23 @@ evidence_of_done c d a b e = cc
 cell_of_done : (c d : Cell) (a b : Bool) → done c a ≡ done d b → c ≡ d
 cell_of_done c d a b e = cc
 
-accepted_inside : (b : Bool) → refused_where (not b) ≡ None → b ≡ true
+accepted_inside : (b : Bool) → code_where 1 (not b) ≡ None → b ≡ true
 accepted_inside true h = refl
 accepted_inside false h = cc
 
 -- an accepted outcome is the exact number
-exact_cell : (z : ℤ) (r : Option Cell) → Accepted refused_where (wrapped z) r → r ≡ Some (number z)
-exact_cell z r accepted =
+exact_cell : (cells : List Cell) (r : Option Cell) → Accepted checked_adds cells r → r ≡ Some (number (exact_sum cells))
+exact_cell cells r accepted =
+    let z = exact_sum cells in
     let evidence = evidence_of_done (number (int_wrap w64 z)) accepted.cell (is_outside z) accepted.evidence accepted.outcome_is in
     let cell = cell_of_done (number (int_wrap w64 z)) accepted.cell (is_outside z) accepted.evidence accepted.outcome_is in
-    let inside : in_range I64 z ≡ true = accepted_inside (in_range I64 z) (ap refused_where evidence ∙ accepted.accepted) in
+    let inside : in_range I64 z ≡ true = accepted_inside (in_range I64 z) (ap (code_where 1) evidence ∙ accepted.accepted) in
     let same : int_wrap w64 z ≡ z = int_wrap_fits w64 z ((fits_decides w64 z).0 inside) in
     accepted.is ∙ ap Some (sym cell) ∙ ap (λ (y : ℤ). Some (number y)) same
 
-strict_sum : (cells : Option (List Cell)) (r : Option Cell) → StrictRow refused_where checked_sums cells r → r ≡ option_map number (option_map exact_sum cells)
+strict_sum : (cells : Option (List Cell)) (r : Option Cell) → StrictRow checked_adds cells r → r ≡ option_map number (option_map exact_sum cells)
 strict_sum None r strict = strict
-strict_sum (Some cells) r strict = exact_cell (exact_sum cells) r strict
+strict_sum (Some cells) r strict = exact_cell cells r strict
 
 -- the rows of a result are the sums
 pub result_rows : (n : ℕ) (a : Array) → IsResultOf CheckedAdd n (generated n) (column a) → len a ≡ n → (i : ℕ) → i < n → row a i ≡ option_map number (sum_at n i)

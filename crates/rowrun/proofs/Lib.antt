@@ -2,6 +2,7 @@ pub mod Answered
 pub mod Asked
 pub mod GeneratedRows
 pub mod GeneratedSums
+pub mod InRange
 pub mod Lifted
 pub mod Printed
 pub mod Tallied

@@ -1,5 +1,5 @@
 -- A truncation is of a type that is printed.
-use Rattle.std.proofs.Common.{◌≡◌, ◌∙◌, Bool, true, false, ◌&&◌, List, [], ◌∷◌, Option, Some, None, refl, ap, sym}
+use Rattle.std.proofs.Common.{◌≡◌, ◌∙◌, ℤ, Bool, true, false, ◌&&◌, List, [], ◌∷◌, Option, Some, None, refl, ap, sym}
 use Rattle.std.specs.Prelude.{if◌then◌else◌, unwrap_or, bytes_eq, IfOk, Result, Ok, Err}
 use Rattle.colbase.specs.Arrays.{Array, dtype}
 use Rattle.coltypes.specs.declared.fault.Fault.{Fault}
@@ -8,9 +8,10 @@ use Rattle.coltypes.specs.declared.dtype.Nullability.{Nullability}
 use Rattle.coltypes.specs.declared.dtype.Nullability.TheVariants.{Nullable, NonNullable}
 use Rattle.coltypes.specs.declared.dtype.PType.TheVariants.{I8, I16, I32, I64, U8, U16, U32, U64}
 use Rattle.rowelems.specs.Reading.{is_integer, is_time_unit, is_timestamp, timestamp_name}
+use Rattle.rowplan.specs.Law.{RowLaw}
 use Rattle.rowplan.specs.Outputs.{any_nullable, made_nullable, output_type, stated_type}
 use Rattle.rowexec.specs.Batch.{StatedAs}
-use Rattle.rowsample.specs.Functions.{first_label, truncated_output}
+use Rattle.rowsample.specs.Functions.{first_label, truncates}
 use Rattle.rowjson.specs.Text.{is_i64, is_printed}
 
 integer_stays : (t : LogicalType) (n : Nullability) → is_integer I64 (with_nullability t n) ≡ is_integer I64 t
@@ -73,13 +74,23 @@ stated_printed (t ∷ types) = under_label (any_nullable (t ∷ types)) (is_time
 same_storage : (s : LogicalType) → Some (primitive I64 NonNullable) ≡ Some s → s ≡ primitive I64 NonNullable
 same_storage s e = sym (ap (λ (o : Option LogicalType). unwrap_or o null) e)
 
-truncation_printed : (types : List LogicalType) (t : LogicalType) → StatedAs (truncated_output types) types t → is_printed t ≡ true
-truncation_printed types t stated =
+truncation_printed : (ticks : ℤ) (types : List LogicalType) (t : LogicalType) → StatedAs (truncates ticks types) types t → is_printed t ≡ true
+truncation_printed ticks types t stated =
     ap is_printed stated.is
     ∙ ap (λ (s : LogicalType). is_printed (stated_type (output_type s (first_label types)) types)) (same_storage stated.storage stated.stored)
     ∙ stated_printed types
 
 -- what an engine says of its column
-pub truncations_printed : (types : List LogicalType) (r : Result Array Fault) → IfOk r (λ a. StatedAs (truncated_output types) types (dtype a)) → IfOk r (λ a. is_printed (dtype a) ≡ true)
-truncations_printed types (Ok a) stated = truncation_printed types (dtype a) stated
-truncations_printed types (Err e) stated = tt
+pub truncations_printed : (ticks : ℤ) (types : List LogicalType) (r : Result Array Fault) → IfOk r (λ a. StatedAs (truncates ticks types) types (dtype a)) → IfOk r (λ a. is_printed (dtype a) ≡ true)
+truncations_printed ticks types (Ok a) stated = truncation_printed ticks types (dtype a) stated
+truncations_printed ticks types (Err e) stated = tt
+
+-- so is a result of numbers without a label
+pub numbers_stated : {E : Type 0} (law : RowLaw E) (types : List LogicalType) (r : Result Array Fault) → law.output.storage ≡ Some (primitive I64 NonNullable) → law.output.label ≡ None
+    → IfOk r (λ a. StatedAs law types (dtype a)) → IfOk r (λ a. is_printed (dtype a) ≡ true)
+numbers_stated law types (Ok a) storage label stated =
+    ap is_printed stated.is
+    ∙ ap (λ (l : Option LogicalType). is_printed (stated_type (output_type stated.storage l) types)) label
+    ∙ ap (λ (s : LogicalType). is_printed (stated_type s types)) (same_storage stated.storage (sym storage ∙ stated.stored))
+    ∙ numbers_printed (any_nullable types)
+numbers_stated law types (Err e) storage label stated = tt

@@ -60,7 +60,8 @@ summary_line name number = line (name ++ number)
 
 -- the lines of the numbers of rows and of null rows, and of the sum of the others
 abbrev pub summary_text : ℕ → ℕ → ℤ → List ℕ
-summary_text n nulls sum = summary_line (codes "rows ") (decimal n) ++ (summary_line (codes "nulls ") (decimal nulls) ++ summary_line (codes "sum ") (signed_decimal sum))
+summary_text n nulls sum =
+    summary_line (codes "rows ") (decimal n) ++ (summary_line (codes "nulls ") (decimal nulls) ++ summary_line (codes "sum ") (signed_decimal sum))
 
 -- the summary of the checked sums of n generated rows
 unfoldable pub summary : ℕ → List ℕ

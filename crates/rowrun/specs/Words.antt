@@ -34,7 +34,8 @@ pub record IsGen (words : List (List ℕ)) (n : ℕ) : Type 0 where
 
 -- the number whose decimal the word is, where that is in range
 unfoldable pub count_in : List ℕ → Option ℕ
-count_in word = if bytes_eq (decimal (digits_value 10 word)) word && nat_le (digits_value 10 word) most_rows then Some (digits_value 10 word) else None
+count_in word =
+    if bytes_eq (decimal (digits_value 10 word)) word && nat_le (digits_value 10 word) most_rows then Some (digits_value 10 word) else None
 
 -- the number of rows that the words ask to generate
 abbrev pub rows_asked : List (List ℕ) → Option ℕ
@@ -69,11 +70,12 @@ WordsLead called words (Printed t) = called × (n : ℕ) × (rows_asked words �
 
 -- the reply has its cause in a call with these words that did this to its source, where the engine was called
 abbrev pub CauseOfReply : Type 0 → List (String Global) → Change → Reply → Type 0
-CauseOfReply called words source reply = HasCause (command_of (map string_bytes words)) (WordsLead called (map string_bytes words)) (Leads called) source reply
+CauseOfReply called words source reply =
+    HasCause (command_of (map string_bytes words)) (WordsLead called (map string_bytes words)) (Leads called) source reply
 
 -- How a call that generates n rows ends: its whole summary was written, or a proper prefix of it where the sink failed, or memory ran out before the first write.
--- Where the engine wasn't called nothing was written.
+-- Where the engine wasn't called nothing was written. Nothing was read.
 pub data Generates (called : Type 0) (n status : ℕ) (source sink : Change) : Type 0 where
   printed : status ≡ 0 → called → IsUntouched source → Gained sink (summary n) → Generates called n status source sink
   cut : status ≡ 6 → called → IsUntouched source → HasFailed sink → (prefix : List ℕ) → IsProperPrefix prefix (summary n) → Gained sink prefix → Generates called n status source sink
-  memory : status ≡ 4 → IsUntouched sink → Generates called n status source sink
+  memory : status ≡ 4 → IsUntouched source → IsUntouched sink → Generates called n status source sink

@@ -3,6 +3,7 @@ ghost use Rattle.std.specs.Prelude.{◌≡◌, ◌≤◌, ◌⊎◌, ℕ, List, 
 ghost use Rattle.colbase.specs.Arrays.{column, dtype};
 ghost use Rattle.colbase.specs.Column.{Column};
 ghost use Rattle.coltypes.specs.declared.fault.Fault as refusals;
+ghost use Rattle.coltypes.specs.declared.fault.Fault.TheVariants.{Memory};
 ghost use Rattle.rowexec.specs.Calls.{Raised};
 ghost use Rattle.rowtext.specs.declared.reply.Reply.{Reply};
 ghost use Rattle.rowtext.specs.declared.reply.Reply.TheVariants.{Usage, Unread, Long, Answered};
@@ -10,6 +11,7 @@ ghost use Rattle.rowtext.specs.declared.reply.Answer.TheVariants.{Form, Unbuilt}
 ghost use Rattle.rowtext.specs.Bytes.{IsProperPrefix};
 ghost use Rattle.rowtext.specs.Replies.{reply_text};
 ghost use Rattle.rowtext.specs.Changes.{change, HasFailed, IsSteady, IsUntouched, Gained, TookAll, TookTooMany};
+ghost use Rattle.rowtext.specs.Causes.{KeptWithoutInput};
 ghost use Rattle.rowtext.specs.Outcomes.{Did, Ends, IsAnswer, InputLeads, WroteWhole};
 ghost use Rattle.rowrun.specs.Batch.{Batch as StatedBatch, batch_of};
 ghost use Rattle.rowrun.specs.BatchView.{batch_view};
@@ -18,7 +20,7 @@ ghost use Rattle.rowrun.specs.Results.{CauseOf, HasFault, IsResult};
 ghost use Rattle.rowjson.specs.Text.{is_printed};
 ghost use Rattle.rowjson.specs.Text.{text};
 ghost use Rattle.rowrun.specs.Generator.{summary};
-ghost use Rattle.rowrun.specs.Words.{is_run, CauseOfReply, Generates, IsGen, Leads};
+ghost use Rattle.rowrun.specs.Words.{command_of, is_run, CauseOfReply, Generates, IsGen, Leads};
 
 use crate::batch::{Batch, Call};
 use crate::fault::fault_text;
@@ -51,6 +53,13 @@ pub(crate) fn execute<E: RowEngine>(
     }
 }
 
+/// The error of a call that has no other fault than want of memory.
+fn out_of_memory(fault: Fault) -> AllocError
+    requires { fault ≡ Memory }
+{
+    AllocError
+}
+
 /// What all the bytes of an input lead to.
 fn answer_to<E: RowEngine>(
     engine: &mut E,
@@ -66,7 +75,10 @@ fn answer_to<E: RowEngine>(
         Err(InputStop::Unbuilt) => return Ok(Answer::Unbuilt),
     };
     match execute(engine, &batch, ctx) {
-        Ok(column) => Ok(Answer::Printed(Text::new(text_of(&column, ctx)?))),
+        Ok(column) => match text_of(&column, ctx) {
+            Ok(text) => Ok(Answer::Printed(Text::new(text))),
+            Err(fault) => Err(out_of_memory(fault)),
+        },
         Err(Fault::Memory) => Err(AllocError),
         Err(fault) => Ok(Answer::Fault(Text::new(fault_text(ctx.alloc(), fault)?))),
     }
@@ -111,10 +123,10 @@ impl<E: RowEngine> TopCall<E> for Rows {
         engine: &mut E,
     ) -> Result<Answer, AllocError> {
         match rows_asked(words) {
-            Some(rows) => {
-                let summary = summary_of(engine, rows, ExecutionCtx::new(alloc))?;
-                Ok(Answer::Printed(Text::new(summary)))
-            }
+            Some(rows) => match summary_of(engine, rows, ExecutionCtx::new(alloc)) {
+                Ok(summary) => Ok(Answer::Printed(Text::new(summary))),
+                Err(fault) => Err(out_of_memory(fault)),
+            },
             // It isn't called with other words.
             None => Err(AllocError),
         }
@@ -147,7 +159,10 @@ pub fn run<E: RowEngine, S: Source, K: Sink>(
     sink: &mut K,
 ) -> u8
     // Each status has its cause, and what was written goes with it.
-    ensures ends { Ends (CauseOfReply (Raised (E.calls engine.old) (E.calls engine.new)) words.now (change S.left S.faults source.old source.new)) result (change K.held K.faults sink.old sink.new) }
+    ensures ends { Ends (CauseOfReply (Raised (E.calls engine.old) (E.calls engine.new)) words.now
+        (change S.left S.faults source.old source.new))
+        (KeptWithoutInput (command_of (map string_bytes words.now)) source.old source.new)
+        result (change K.held K.faults sink.old sink.new) }
 
     // Statuses 0 and 3: the engine was called.
     ensures called { (result ≡ 0) ⊎ (result ≡ 3) → Raised (E.calls engine.old) (E.calls engine.new) }
@@ -155,36 +170,51 @@ pub fn run<E: RowEngine, S: Source, K: Sink>(
     // Status 0: the word is `run`, all was read, the bytes state a batch, and exactly the text of its result was written; or the words are `gen`
     // and N, the source is as it was, and exactly the summary of N rows was written.
     ensures done { result ≡ 0 → ((is_run (map string_bytes words.now) ≡ true) × TookAll (change S.left S.faults source.old source.new)
-        (λ bytes. (b : StatedBatch) × (batch_of bytes ≡ Some b) × (c : Column) × IsResult b c × Gained (change K.held K.faults sink.old sink.new) (text c)))
-        ⊎ ((n : ℕ) × IsGen (map string_bytes words.now) n × IsUntouched (change S.left S.faults source.old source.new) × Gained (change K.held K.faults sink.old sink.new) (summary n)) }
+        (λ bytes. (b : StatedBatch) × (batch_of bytes ≡ Some b) × (c : Column) × IsResult b c × Gained
+        (change K.held K.faults sink.old sink.new) (text c)))
+        ⊎ ((n : ℕ) × IsGen (map string_bytes words.now) n × IsUntouched (change S.left S.faults source.old source.new) × Gained
+        (change K.held K.faults sink.old sink.new) (summary n)) }
 
     // Status 3: all was read, the bytes state a batch, and exactly the line of a fault that has its cause for it was written.
     ensures fault { result ≡ 3 → TookAll (change S.left S.faults source.old source.new)
-        (λ bytes. (b : StatedBatch) × (batch_of bytes ≡ Some b) × (e : refusals.Fault) × HasFault b e × Gained (change K.held K.faults sink.old sink.new) (fault_text e)) }
+        (λ bytes. (b : StatedBatch) × (batch_of bytes ≡ Some b) × (e : refusals.Fault) × HasFault b e × Gained
+        (change K.held K.faults sink.old sink.new) (fault_text e)) }
 
     // Statuses 1, 2, 5, 7 and 8: the cause, and the word.
-    ensures usage { result ≡ 1 → Did (CauseOfReply (Raised (E.calls engine.old) (E.calls engine.new)) words.now (change S.left S.faults source.old source.new)) (change K.held K.faults sink.old sink.new) Usage }
-    ensures form { result ≡ 2 → Did (CauseOfReply (Raised (E.calls engine.old) (E.calls engine.new)) words.now (change S.left S.faults source.old source.new)) (change K.held K.faults sink.old sink.new) (Answered Form) }
-    ensures unread { result ≡ 5 → Did (CauseOfReply (Raised (E.calls engine.old) (E.calls engine.new)) words.now (change S.left S.faults source.old source.new)) (change K.held K.faults sink.old sink.new) Unread }
-    ensures long { result ≡ 7 → Did (CauseOfReply (Raised (E.calls engine.old) (E.calls engine.new)) words.now (change S.left S.faults source.old source.new)) (change K.held K.faults sink.old sink.new) Long }
-    ensures unbuilt { result ≡ 8 → Did (CauseOfReply (Raised (E.calls engine.old) (E.calls engine.new)) words.now (change S.left S.faults source.old source.new)) (change K.held K.faults sink.old sink.new) (Answered Unbuilt) }
+    ensures usage { result ≡ 1 → Did (CauseOfReply (Raised (E.calls engine.old) (E.calls engine.new)) words.now
+        (change S.left S.faults source.old source.new)) (change K.held K.faults sink.old sink.new) Usage }
+    ensures form { result ≡ 2 → Did (CauseOfReply (Raised (E.calls engine.old) (E.calls engine.new)) words.now
+        (change S.left S.faults source.old source.new)) (change K.held K.faults sink.old sink.new) (Answered Form) }
+    ensures unread { result ≡ 5 → Did (CauseOfReply (Raised (E.calls engine.old) (E.calls engine.new)) words.now
+        (change S.left S.faults source.old source.new)) (change K.held K.faults sink.old sink.new) Unread }
+    ensures long { result ≡ 7 → Did (CauseOfReply (Raised (E.calls engine.old) (E.calls engine.new)) words.now
+        (change S.left S.faults source.old source.new)) (change K.held K.faults sink.old sink.new) Long }
+    ensures unbuilt { result ≡ 8 → Did (CauseOfReply (Raised (E.calls engine.old) (E.calls engine.new)) words.now
+        (change S.left S.faults source.old source.new)) (change K.held K.faults sink.old sink.new) (Answered Unbuilt) }
 
     // Status 6: the sink failed, before the whole of a text that has its cause.
-    ensures cut { result ≡ 6 → (reply : Reply) × CauseOfReply (Raised (E.calls engine.old) (E.calls engine.new)) words.now (change S.left S.faults source.old source.new) reply
+    ensures cut { result ≡ 6 → (reply : Reply) × CauseOfReply (Raised (E.calls engine.old) (E.calls engine.new)) words.now
+        (change S.left S.faults source.old source.new) reply
         × HasFailed (change K.held K.faults sink.old sink.new)
         × (prefix : List ℕ) × IsProperPrefix prefix (reply_text reply) × Gained (change K.held K.faults sink.old sink.new) prefix }
 
     // Status 4: nothing was written.
     ensures memory { result ≡ 4 → IsUntouched (change K.held K.faults sink.old sink.new) }
+
+    // Words other than `run` leave the source as it was, whatever the status, so also where memory runs out.
+    ensures kept { is_run (map string_bytes words.now) ≡ false → source.new ≡ source.old }
     ensures no_others { result ≤ 8 }
 
     // The words `gen` and N in range: the status is 0, 4 or 6, and what was written goes with it; where the sink doesn't fail, it is 0 or 4.
     ensures generates { (n : ℕ) → IsGen (map string_bytes words.now) n
-        → Generates (Raised (E.calls engine.old) (E.calls engine.new)) n result (change S.left S.faults source.old source.new) (change K.held K.faults sink.old sink.new) }
-    ensures generated { (n : ℕ) → IsGen (map string_bytes words.now) n → IsSteady (change K.held K.faults sink.old sink.new) → (result ≡ 0) ⊎ (result ≡ 4) }
+        → Generates (Raised (E.calls engine.old) (E.calls engine.new)) n result (change S.left S.faults source.old source.new)
+        (change K.held K.faults sink.old sink.new) }
+    ensures generated { (n : ℕ) → IsGen (map string_bytes words.now) n → IsSteady (change K.held K.faults sink.old sink.new) → (result ≡ 0)
+        ⊎ (result ≡ 4) }
 
     // Other words give status 1, unless the sink fails.
-    ensures refused { is_run (map string_bytes words.now) ≡ false → ((n : ℕ) → IsGen (map string_bytes words.now) n → ⊥) → IsSteady (change K.held K.faults sink.old sink.new)
+    ensures refused { is_run (map string_bytes words.now) ≡ false → ((n : ℕ) → IsGen (map string_bytes words.now) n → ⊥) → IsSteady
+        (change K.held K.faults sink.old sink.new)
         → WroteWhole (λ reply. reply ≡ Usage) result (change K.held K.faults sink.old sink.new) }
 
     // More bytes than the limit give status 7, unless the sink fails.
@@ -194,13 +224,16 @@ pub fn run<E: RowEngine, S: Source, K: Sink>(
 
     // Where all the bytes were taken and the status is not that of a failed reading, they alone decide, unless the sink fails.
     ensures exact { (bytes : List ℕ) → is_run (map string_bytes words.now) ≡ true → S.left source.old ≡ Some bytes
-        → TookAll (change S.left S.faults source.old source.new) (λ b. ⊤) → (result ≡ 5 → ⊥) → IsSteady (change K.held K.faults sink.old sink.new)
-        → WroteWhole (IsAnswer (Leads (Raised (E.calls engine.old) (E.calls engine.new)) bytes)) result (change K.held K.faults sink.old sink.new) }
+        → TookAll (change S.left S.faults source.old source.new) (λ b. ⊤) → (result ≡ 5 → ⊥) → IsSteady
+        (change K.held K.faults sink.old sink.new)
+        → WroteWhole (IsAnswer (Leads (Raised (E.calls engine.old) (E.calls engine.new)) bytes)) result
+        (change K.held K.faults sink.old sink.new) }
 
     // Where nothing fails, the input alone decides, unless memory runs out.
     ensures complete { (bytes : List ℕ) → is_run (map string_bytes words.now) ≡ true → S.left source.old ≡ Some bytes
         → IsSteady (change S.left S.faults source.old source.new) → IsSteady (change K.held K.faults sink.old sink.new)
-        → WroteWhole (InputLeads (Leads (Raised (E.calls engine.old) (E.calls engine.new))) bytes) result (change K.held K.faults sink.old sink.new) }
+        → WroteWhole (InputLeads (Leads (Raised (E.calls engine.old) (E.calls engine.new))) bytes) result
+        (change K.held K.faults sink.old sink.new) }
 
     ensures source_faults { S.faults source.old ≤ S.faults source.new }
     ensures sink_faults { K.faults sink.old ≤ K.faults sink.new }

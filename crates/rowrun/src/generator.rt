@@ -14,12 +14,13 @@ use crate::batch::{Batch, Call};
 use crate::call::execute;
 use colbase::{ArrayRef, Buffer, ExecutionCtx, Res};
 use column::generated;
+use ranges::check_array;
 use rowexec::RowEngine;
 use rowtypes::InputElement;
-use std::alloc::AllocError;
 use summary::{add_up, text_of};
 
 mod column;
+mod ranges;
 mod summary;
 
 /// The checked sums of the generated columns, as the engine answers them. It never refuses them, so that memory alone
@@ -38,13 +39,15 @@ fn sums<E: RowEngine>(engine: &mut E, rows: usize, ctx: ExecutionCtx) -> Res<Arr
     execute(engine, &batch, ctx)
 }
 
-/// A number for each row, at each row that isn't null its cell.
-fn numbers_of(array: &ArrayRef, ctx: ExecutionCtx) -> Result<Buffer<i64>, AllocError>
+/// A number for each row, at each row that isn't null its cell. Each cell of the type is read, so that memory alone can be
+/// wanting.
+fn numbers_of(array: &ArrayRef, ctx: ExecutionCtx) -> Res<Buffer<i64>>
     requires { is_integer I64 (dtype array.now) ≡ true }
-    ensures { IfOk result (Shows array.now) }
+    ensures shows { IfOk result (Shows array.now) }
+    ensures errors { IfErr result (λ e. e ≡ Memory) }
 {
-    // Each cell of the type is read, so that memory alone can be wanting.
-    i64::decode(array, ctx).map_err(|_| AllocError)
+    check_array(array);
+    i64::decode(array, ctx)
 }
 
 /// The summary of the checked sums of this many generated rows, which the engine adds.
@@ -54,16 +57,15 @@ pub(crate) fn summary_of<E: RowEngine>(
     engine: &mut E,
     rows: usize,
     ctx: ExecutionCtx,
-) -> Result<Vec<u8>, AllocError>
+) -> Res<Vec<u8>>
     requires { rows ≤ most_rows }
     ensures called { OnOk result (Raised (E.calls engine.old) (E.calls engine.new)) }
     ensures summary { IfOk result (λ v. v.items ≡ summary rows) }
+    ensures errors { IfErr result (λ e. e ≡ Memory) }
 {
-    let array = match sums(engine, rows, ctx) {
-        Ok(array) => array,
-        Err(_) => return Err(AllocError),
-    };
+    let array = sums(engine, rows, ctx)?;
     let numbers = numbers_of(&array, ctx)?;
     let marks = array.validity().execute_mask(array.len());
-    text_of(ctx.alloc(), rows, add_up(numbers.as_slice(), &marks))
+    let text = text_of(ctx.alloc(), rows, add_up(numbers.as_slice(), &marks))?;
+    Ok(text)
 }

@@ -1,3 +1,2 @@
 pub mod ExactNumbers
 pub mod Powers
-pub mod SameElements

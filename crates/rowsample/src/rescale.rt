@@ -1,13 +1,13 @@
 // The product with a power of 10. A scale past 18 isn't read, so that only rows without a null run; the power of a constant scale is made once.
-ghost use Rattle.std.specs.Prelude.{◌≡◌, ◌⊎◌, ◌≤◌, ◌^◌, ◌*ℤ◌, pos, true, false, length, Option, MatchOption, option_map, IfOk, IfErr, IfSome, Ok, Err, is_some};
+ghost use Rattle.std.specs.Prelude.{◌≡◌, ◌⊎◌, ◌≤◌, ◌^◌, ◌*ℤ◌, pos, false, Option, MatchOption, option_map, Ok};
 ghost use Rattle.coltypes.specs.Cell.{number};
 ghost use Rattle.rowplan.specs.Outcomes.{done};
 ghost use Rattle.rowsample.specs.Functions.{wrapped};
 ghost use Rattle.rowsample.specs.Powers.{power_of, HasBounds};
 
 use crate::evidence::judge;
-use colbase::{DType, EmptyOptions, ExecutionCtx, Fault, Res};
-use rowplan::{RowFn, RowSpec, RowVisitor};
+use colbase::{DType, EmptyOptions, ExecutionCtx, Res};
+use rowplan::{NoForm, RowFn, RowSpec, RowVisitor};
 use rowtypes::DecimalScale;
 use std::alloc::AllocError;
 
@@ -15,61 +15,30 @@ use std::alloc::AllocError;
 #[derive(Clone, Copy, Debug, PartialEq, Eq)]
 pub struct Rescale;
 
+const NAMES: &'static [&'static str] = &["value", "scale"];
+
 impl RowSpec for Rescale {
-    ghost use Rattle.std.specs.Prelude.{◌≡◌, true, false, pos, refl};
-    ghost use Rattle.coltypes.specs.Cell.{number};
-    ghost use Rattle.rowplan.specs.declared.batch_plan.RowPolicy.TheVariants.{ValidOnly};
-    ghost use Rattle.rowsample.specs.Functions.{accepts_rescale, false_is_true, i64_output, reads_rescale, refused_where, refused_where_laws, rescaled, shown_rescale, true_is_false};
+    ghost use Rattle.std.specs.Prelude.{false, map};
+    ghost use Rattle.rowsample.specs.Functions.{exact_is_lawful, rescales};
+    ghost use Rattle.rowsample.specs.declared.rescale.TheConstants.{NAMES as names};
 
     type Options = EmptyOptions;
 
+    type Form = NoForm;
+
     type Evidence = bool;
 
-    const ARG_NAMES: &'static [&'static str] = &["value", "scale"];
+    const ARG_NAMES: &'static [&'static str] = NAMES;
 
     const INFALLIBLE: bool = false;
 
-    ghost arity = { 2 };
-
     ghost INFALLIBLE = { false };
 
-    ghost accepts = { λ o t. true };
+    ghost names = { map (λ name. name.now) names.now };
 
-    ghost fits = { λ o t. accepts_rescale };
+    ghost law = { λ o t. rescales };
 
-    ghost reads = { λ o t. reads_rescale };
-
-    ghost shown = { λ o t. shown_rescale };
-
-    ghost output = { λ o t. i64_output };
-
-    ghost room = { λ o t n. true };
-
-    ghost placeholder = { λ o t. number (pos 0) };
-
-    ghost policy = { λ o t. ValidOnly };
-
-    ghost deferred = { λ o t. true };
-
-    ghost meaning = { λ o t. rescaled };
-
-    ghost finish = { refused_where };
-
-    ghost has_form = { false };
-
-    ghost states_options = { λ bytes o. ⊥ };
-
-    ghost finish_laws = { refused_where_laws };
-
-    ghost room_falls = { λ o t n m le h. refl };
-
-    ghost evidence_in_range = { λ o t cells. tt };
-
-    ghost no_evidence = { λ o t cells h. true_is_false h };
-
-    ghost no_error = { λ o t cells h. tt };
-
-    ghost infallible = { λ o t cells h. false_is_true h };
+    ghost lawful = { λ o t. exact_is_lawful _ _ _ _ };
 
     fn names_of_arguments() -> &'static [&'static str] {
         Self::ARG_NAMES
@@ -79,14 +48,6 @@ impl RowSpec for Rescale {
 impl RowFn for Rescale {
     fn id(&self) -> &'static str {
         "rescale"
-    }
-
-    fn serialize(&self, _options: &EmptyOptions, _ctx: ExecutionCtx) -> Res<Option<Vec<u8>>> {
-        Ok(None)
-    }
-
-    fn deserialize(&self, _metadata: &[u8], _ctx: ExecutionCtx) -> Res<EmptyOptions> {
-        Err(Fault::NotSerializable)
     }
 
     fn dispatch<V: RowVisitor<Rescale>>(

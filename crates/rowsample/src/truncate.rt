@@ -1,5 +1,5 @@
 // The multiple of a step below a timestamp, shown under the argument's own type.
-ghost use Rattle.std.specs.Prelude.{◌≡◌, ◌⊎◌, ◌-ℤ◌, ◌<ℤ◌, pos, true, false, length, Option, IfOk, IfErr, IfSome, Err, is_some};
+ghost use Rattle.std.specs.Prelude.{◌≡◌, ◌⊎◌, ◌-ℤ◌, ◌<ℤ◌, pos, false, Err};
 ghost use Rattle.std.specs.Int.{int_rem_euclid};
 ghost use Rattle.coltypes.specs.Cell.{number};
 ghost use Rattle.rowplan.specs.Outcomes.{done};
@@ -8,7 +8,7 @@ ghost use Rattle.rowsample.specs.Functions.{wrapped};
 use crate::evidence::judge;
 use crate::label::{labelled, time_label};
 use colbase::{DType, ExecutionCtx, Fault, Res};
-use rowplan::{RowFn, RowSpec, RowVisitor};
+use rowplan::{NoForm, RowFn, RowSpec, RowVisitor};
 use rowtypes::TimestampRow;
 use std::fmt::{self, Display};
 
@@ -30,62 +30,30 @@ impl Display for TruncateOptions {
 #[derive(Clone, Copy, Debug, PartialEq, Eq)]
 pub struct Truncate;
 
+const NAMES: &'static [&'static str] = &["value"];
+
 impl RowSpec for Truncate {
-    ghost use Rattle.std.specs.Prelude.{◌≡◌, true, false, pos, refl};
-    ghost use Rattle.std.specs.Int.{is_positive};
-    ghost use Rattle.coltypes.specs.Cell.{number};
-    ghost use Rattle.rowplan.specs.declared.batch_plan.RowPolicy.TheVariants.{DenseWithRetry};
-    ghost use Rattle.rowsample.specs.Functions.{accepts_timestamp, false_is_true, reads_i64, refused_where, refused_where_laws, shown_i64, true_is_false, truncated, truncated_output};
+    ghost use Rattle.std.specs.Prelude.{false, map};
+    ghost use Rattle.rowsample.specs.Functions.{truncates, truncates_is_lawful};
+    ghost use Rattle.rowsample.specs.declared.truncate.TheConstants.{NAMES as names};
 
     type Options = TruncateOptions;
 
+    type Form = NoForm;
+
     type Evidence = bool;
 
-    const ARG_NAMES: &'static [&'static str] = &["value"];
+    const ARG_NAMES: &'static [&'static str] = NAMES;
 
     const INFALLIBLE: bool = false;
 
-    ghost arity = { 1 };
-
     ghost INFALLIBLE = { false };
 
-    ghost accepts = { λ o t. is_positive o.ticks };
+    ghost names = { map (λ name. name.now) names.now };
 
-    ghost fits = { λ o t. accepts_timestamp };
+    ghost law = { λ o t. truncates o.ticks t };
 
-    ghost reads = { λ o t. reads_i64 };
-
-    ghost shown = { λ o t. shown_i64 };
-
-    ghost output = { λ o t. truncated_output t };
-
-    ghost room = { λ o t n. true };
-
-    ghost placeholder = { λ o t. number (pos 0) };
-
-    ghost policy = { λ o t. DenseWithRetry };
-
-    ghost deferred = { λ o t. true };
-
-    ghost meaning = { λ o t. truncated o.ticks };
-
-    ghost finish = { refused_where };
-
-    ghost has_form = { false };
-
-    ghost states_options = { λ bytes o. ⊥ };
-
-    ghost finish_laws = { refused_where_laws };
-
-    ghost room_falls = { λ o t n m le h. refl };
-
-    ghost evidence_in_range = { λ o t cells. tt };
-
-    ghost no_evidence = { λ o t cells h. true_is_false h };
-
-    ghost no_error = { λ o t cells h. tt };
-
-    ghost infallible = { λ o t cells h. false_is_true h };
+    ghost lawful = { λ o t. truncates_is_lawful o.ticks t };
 
     fn names_of_arguments() -> &'static [&'static str] {
         Self::ARG_NAMES
@@ -95,14 +63,6 @@ impl RowSpec for Truncate {
 impl RowFn for Truncate {
     fn id(&self) -> &'static str {
         "truncate"
-    }
-
-    fn serialize(&self, _options: &TruncateOptions, _ctx: ExecutionCtx) -> Res<Option<Vec<u8>>> {
-        Ok(None)
-    }
-
-    fn deserialize(&self, _metadata: &[u8], _ctx: ExecutionCtx) -> Res<TruncateOptions> {
-        Err(Fault::NotSerializable)
     }
 
     fn dispatch<V: RowVisitor<Truncate>>(

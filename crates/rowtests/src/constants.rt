@@ -103,7 +103,6 @@ fn a_constant_under_a_label(rt: HostRuntime) -> Result<(), Fail> {
     let args = one(seconds(2, ctx)?, 2, ctx)?;
     let minutes = TruncateOptions { ticks: 60 };
     let answer = execute_rows(&Truncate, &minutes, &args, ctx)?;
-    let storage = answer.ext_storage().ok_or("no extension")?;
-    assert!(rt; storage.as_constant().is_some());
+    assert!(rt; answer.as_constant().is_some());
     Ok(())
 }

@@ -1,5 +1,6 @@
 // The plans of row functions: each visit is planned at a concrete type.
 ghost use Rattle.std.specs.Prelude.{◌≡◌, length};
+ghost use Rattle.rowtypes.specs.Rows.{logical_types};
 
 use colbase::{
     DType, EmptyOptions, ExecutionCtx, ExtDType, Fault, Nullability, PType, Res, TimeUnit,
@@ -20,7 +21,7 @@ fn planned<F: RowFn>(
     types: &[DType],
     ctx: ExecutionCtx,
 ) -> Res<BatchPlan>
-    requires { length types.now ≡ F.arity }
+    requires { length types.now ≡ (F.law options.now (logical_types types.now)).arity }
 {
     let planner = BatchPlanner::<F>::new(options, types, ctx);
     function.dispatch(options, types, planner, ctx)

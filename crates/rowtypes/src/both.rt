@@ -34,13 +34,12 @@ impl<A: ElementTuple, B: ElementTuple> ElementTuple for Both<A, B> {
 
     ghost DECODE_INFALLIBLE = { A.DECODE_INFALLIBLE && B.DECODE_INFALLIBLE };
 
-    ghost accepts = { side_by_side A.ARITY A.accepts B.accepts };
-
-    ghost reads = { reads_side_by_side A.ARITY A.reads B.reads };
-
-    ghost shown = { side_by_side A.ARITY A.shown B.shown };
-
-    ghost null_tolerant = { side_by_side A.ARITY A.null_tolerant B.null_tolerant };
+    ghost elements = { record {
+      accepts = side_by_side A.ARITY A.elements.accepts B.elements.accepts;
+      reads = reads_side_by_side A.ARITY A.elements.reads B.elements.reads;
+      shown = side_by_side A.ARITY A.elements.shown B.elements.shown;
+      tolerant = side_by_side A.ARITY A.elements.tolerant B.elements.tolerant;
+    } };
 
     ghost cells = { λ e. A.cells e.0 ++ B.cells e.1 };
 
@@ -54,9 +53,9 @@ impl<A: ElementTuple, B: ElementTuple> ElementTuple for Both<A, B> {
 
     ghost known_agrees = { λ c i. both_agree (A.known_of c.0) (B.known_of c.1) (A.shows c.0 i) (B.shows c.1 i) (A.known_agrees c.0 i) (B.known_agrees c.1 i) };
 
-    ghost shown_constant = { side_by_side_constant A.ARITY A.shown B.shown A.shown_constant B.shown_constant };
+    ghost shown_constant = { side_by_side_constant A.ARITY A.elements.shown B.elements.shown A.shown_constant B.shown_constant };
 
-    ghost shown_row = { side_by_side_row A.ARITY A.shown B.shown A.shown_row B.shown_row };
+    ghost shown_row = { side_by_side_row A.ARITY A.elements.shown B.elements.shown A.shown_row B.shown_row };
 
     fn validate(types: &[DType]) -> Res<()> {
         let (first, second) = split_types(types, A::ARITY, B::ARITY);

@@ -25,6 +25,7 @@ pub trait ElementTuple {
     ghost use Rattle.coltypes.specs.LogicalType.{LogicalType};
     ghost use Rattle.colbase.specs.Arrays.{Array, row};
     ghost use Rattle.rowelems.specs.Shown.{batch_value};
+    ghost use Rattle.rowtypes.specs.Elements.{Elements};
     ghost use Rattle.rowtypes.specs.Rows.{AcceptsFrom, AgreesWith, DecodeFails, HasRow, ReadsAllFrom, ReadsFrom, all_tolerant, batch_values, checked_types, decoded_lengths, each_length, first_refused, logical_types, shown_from};
 
     /// The arguments as they are decoded.
@@ -50,14 +51,8 @@ pub trait ElementTuple {
 
     ghost DECODE_INFALLIBLE: { Bool };
 
-    // These four go by the place of the argument.
-    ghost accepts: { ℕ → LogicalType → Bool };
-
-    ghost reads: { ℕ → Cell → Type 0 };
-
-    ghost shown: { ℕ → Array → ℕ → Cell };
-
-    ghost null_tolerant: { ℕ → Array → Bool };
+    // Which types each place accepts, which cells it reads, what it shows, and which arrays it decodes with their nulls.
+    ghost elements: { Elements };
 
     // The cells of a row's values.
     ghost cells: { Self.Elems → List Cell };
@@ -76,38 +71,38 @@ pub trait ElementTuple {
     /// Refuses the lowest place whose type is not accepted.
     fn validate(types: &[DType]) -> Res<()>
         requires { length types.now ≡ ARITY }
-        ensures { result ≡ checked_types (first_refused accepts 0 (logical_types types.now)) };
+        ensures { result ≡ checked_types (first_refused elements.accepts 0 (logical_types types.now)) };
 
     /// Decodes each argument in order. A `Decode` names the lowest argument that fails, by its place.
     fn decode(columns: &[ArrayRef], ctx: ExecutionCtx) -> Res<Self::Columns>
         requires arity { length columns.now ≡ ARITY }
-        requires types { AcceptsFrom accepts 0 columns.now }
+        requires types { AcceptsFrom elements.accepts 0 columns.now }
         ensures lengths { IfOk result (λ c. lengths c ≡ decoded_lengths columns.now) }
-        ensures same { IfOk result (λ c. (i : ℕ) → HasRow (lengths c) i → shows c i ≡ shown_from shown 0 columns.now i) }
+        ensures same { IfOk result (λ c. (i : ℕ) → HasRow (lengths c) i → shows c i ≡ shown_from elements.shown 0 columns.now i) }
         ensures known { IfOk result (λ c. known_of c ≡ batch_values columns.now) }
-        ensures read { IfOk result (λ c. ReadsAllFrom reads 0 columns.now) }
-        ensures dense { IfOk result (λ c. DENSE_SAFE ≡ true → (i : ℕ) → HasRow (lengths c) i → ReadsFrom reads 0 (shows c i)) }
-        ensures errors { IfErr result (λ e. DecodeFails reads 0 columns.now e) };
+        ensures read { IfOk result (λ c. ReadsAllFrom elements.reads 0 columns.now) }
+        ensures dense { IfOk result (λ c. DENSE_SAFE ≡ true → (i : ℕ) → HasRow (lengths c) i → ReadsFrom elements.reads 0 (shows c i)) }
+        ensures errors { IfErr result (λ e. DecodeFails elements.reads 0 columns.now e) };
 
     /// Whether each argument's element decodes its array with its nulls.
     fn can_decode_null_tolerant(columns: &[ArrayRef]) -> bool
         requires arity { length columns.now ≡ ARITY }
-        requires types { AcceptsFrom accepts 0 columns.now }
-        ensures { result ≡ all_tolerant null_tolerant 0 columns.now };
+        requires types { AcceptsFrom elements.accepts 0 columns.now }
+        ensures { result ≡ all_tolerant elements.tolerant 0 columns.now };
 
     /// The same columns as those of [`ElementTuple::decode`], where each array can be decoded with its nulls, and else
     /// none.
     fn decode_null_tolerant(columns: &[ArrayRef], ctx: ExecutionCtx) -> Res<Option<Self::Columns>>
         requires arity { length columns.now ≡ ARITY }
-        requires types { AcceptsFrom accepts 0 columns.now }
-        ensures declined { all_tolerant null_tolerant 0 columns.now ≡ false → result ≡ Ok None }
-        ensures told { IfOk result (λ o. is_some o ≡ all_tolerant null_tolerant 0 columns.now) }
+        requires types { AcceptsFrom elements.accepts 0 columns.now }
+        ensures declined { all_tolerant elements.tolerant 0 columns.now ≡ false → result ≡ Ok None }
+        ensures told { IfOk result (λ o. is_some o ≡ all_tolerant elements.tolerant 0 columns.now) }
         ensures lengths { IfOk result (λ o. IfSome o (λ c. lengths c ≡ decoded_lengths columns.now)) }
-        ensures same { IfOk result (λ o. IfSome o (λ c. (i : ℕ) → HasRow (lengths c) i → shows c i ≡ shown_from shown 0 columns.now i)) }
+        ensures same { IfOk result (λ o. IfSome o (λ c. (i : ℕ) → HasRow (lengths c) i → shows c i ≡ shown_from elements.shown 0 columns.now i)) }
         ensures known { IfOk result (λ o. IfSome o (λ c. known_of c ≡ batch_values columns.now)) }
-        ensures read { IfOk result (λ o. IfSome o (λ c. ReadsAllFrom reads 0 columns.now)) }
-        ensures dense { IfOk result (λ o. IfSome o (λ c. DENSE_SAFE ≡ true → (i : ℕ) → HasRow (lengths c) i → ReadsFrom reads 0 (shows c i))) }
-        ensures errors { IfErr result (λ e. DecodeFails reads 0 columns.now e) };
+        ensures read { IfOk result (λ o. IfSome o (λ c. ReadsAllFrom elements.reads 0 columns.now)) }
+        ensures dense { IfOk result (λ o. IfSome o (λ c. DENSE_SAFE ≡ true → (i : ℕ) → HasRow (lengths c) i → ReadsFrom elements.reads 0 (shows c i))) }
+        ensures errors { IfErr result (λ e. DecodeFails elements.reads 0 columns.now e) };
 
     /// The values of a row.
     fn get(columns: &Self::Columns, index: usize) -> Self::Elems
@@ -125,9 +120,9 @@ pub trait ElementTuple {
     // The values that are known before a row is read are those of every row.
     ghost known_agrees: { (c : Self.Columns) (i : ℕ) → AgreesWith (known_of c) (shows c i) };
 
-    ghost shown_constant: { (k : ℕ) (a : Array) (i : ℕ) (x : Cell) → batch_value a ≡ Some x → shown k a i ≡ x };
+    ghost shown_constant: { (k : ℕ) (a : Array) (i : ℕ) (x : Cell) → batch_value a ≡ Some x → elements.shown k a i ≡ x };
 
-    ghost shown_row: { (k : ℕ) (a : Array) (i : ℕ) (x : Cell) → batch_value a ≡ None → row a i ≡ Some x → shown k a i ≡ x };
+    ghost shown_row: { (k : ℕ) (a : Array) (i : ℕ) (x : Cell) → batch_value a ≡ None → row a i ≡ Some x → elements.shown k a i ≡ x };
 }
 
 ghost use Rattle.coltypes.specs.LogicalTypeOf.{logical_type};

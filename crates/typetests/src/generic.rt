@@ -21,11 +21,11 @@ pub fn answers<Args: IndexedElementTuple, Out: OutputElement, F: Fn(Args::Elems)
     ctx: ExecutionCtx,
 ) -> Res<Option<ArrayRef>>
     requires arity { length columns.now ≡ Args.ARITY }
-    requires types { AcceptsFrom Args.accepts 0 columns.now }
-    requires callable { (i : ℕ) (e : Args.Elems) → i < rows → Args.cells e ≡ shown_from Args.shown 0 columns.now i → F.pre apply e }
+    requires types { AcceptsFrom Args.elements.accepts 0 columns.now }
+    requires callable { (i : ℕ) (e : Args.Elems) → i < rows → Args.cells e ≡ shown_from Args.elements.shown 0 columns.now i → F.pre apply e }
     ensures told { IfOk result (λ o. is_some o ≡ each_length rows (decoded_lengths columns.now)) }
-    ensures rows { IfOk result (λ o. IfSome o (λ a. (i : ℕ) → i < rows → StatesAnswer (λ e. Args.cells e ≡ shown_from Args.shown 0 columns.now i) (F.post apply) Out.states (row a i))) }
-    ensures errors { IfErr result (λ e. DecodeFails Args.reads 0 columns.now e) }
+    ensures rows { IfOk result (λ o. IfSome o (λ a. (i : ℕ) → i < rows → StatesAnswer (λ e. Args.cells e ≡ shown_from Args.elements.shown 0 columns.now i) (F.post apply) Out.states (row a i))) }
+    ensures errors { IfErr result (λ e. DecodeFails Args.elements.reads 0 columns.now e) }
 {
     let decoded = Args::decode(columns, ctx)?;
     if !Args::decoded_lens_match(&decoded, rows) {
@@ -44,11 +44,11 @@ pub fn answers_by_index<Args: ElementTuple, Out: OutputElement, F: Fn(Args::Elem
     ctx: ExecutionCtx,
 ) -> Res<Option<ArrayRef>>
     requires arity { length columns.now ≡ Args.ARITY }
-    requires types { AcceptsFrom Args.accepts 0 columns.now }
-    requires callable { (i : ℕ) (e : Args.Elems) → i < rows → Args.cells e ≡ shown_from Args.shown 0 columns.now i → F.pre apply e }
+    requires types { AcceptsFrom Args.elements.accepts 0 columns.now }
+    requires callable { (i : ℕ) (e : Args.Elems) → i < rows → Args.cells e ≡ shown_from Args.elements.shown 0 columns.now i → F.pre apply e }
     ensures told { IfOk result (λ o. is_some o ≡ each_length rows (decoded_lengths columns.now)) }
-    ensures rows { IfOk result (λ o. IfSome o (λ a. (i : ℕ) → i < rows → StatesAnswer (λ e. Args.cells e ≡ shown_from Args.shown 0 columns.now i) (F.post apply) Out.states (row a i))) }
-    ensures errors { IfErr result (λ e. DecodeFails Args.reads 0 columns.now e) }
+    ensures rows { IfOk result (λ o. IfSome o (λ a. (i : ℕ) → i < rows → StatesAnswer (λ e. Args.cells e ≡ shown_from Args.elements.shown 0 columns.now i) (F.post apply) Out.states (row a i))) }
+    ensures errors { IfErr result (λ e. DecodeFails Args.elements.reads 0 columns.now e) }
 {
     let decoded = Args::decode(columns, ctx)?;
     if !Args::decoded_lens_match(&decoded, rows) {
@@ -65,7 +65,7 @@ pub fn rows_of<Args: ElementTuple>(
     ctx: ExecutionCtx,
 ) -> Result<(Vec<Args::Elems>, Args::ConstElems), Fail>
     requires arity { length columns.now ≡ Args.ARITY }
-    requires types { AcceptsFrom Args.accepts 0 columns.now }
+    requires types { AcceptsFrom Args.elements.accepts 0 columns.now }
 {
     let decoded = Args::decode(columns, ctx)?;
     if !Args::decoded_lens_match(&decoded, rows) {
@@ -86,7 +86,7 @@ pub fn has_rows_with_nulls<Args: ElementTuple>(
     ctx: ExecutionCtx,
 ) -> Res<Option<bool>>
     requires arity { length columns.now ≡ Args.ARITY }
-    requires types { AcceptsFrom Args.accepts 0 columns.now }
+    requires types { AcceptsFrom Args.elements.accepts 0 columns.now }
 {
     let decoded = Args::decode_null_tolerant(columns, ctx)?;
     Ok(decoded.map(|columns| Args::decoded_lens_match(&columns, rows)))

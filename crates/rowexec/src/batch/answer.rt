@@ -7,11 +7,12 @@ ghost use Rattle.coltypes.specs.declared.fault.Fault.TheVariants.{Memory};
 ghost use Rattle.rowtypes.specs.Rows.{logical_types};
 ghost use Rattle.rowplan.specs.Outputs.{any_nullable, stated_type};
 ghost use Rattle.rowplan.specs.Plans.{PlanOf, plan_of};
-ghost use Rattle.rowexec.specs.Batch.{StatedAs};
-ghost use Rattle.rowexec.specs.Rows.{EachHasRows, StrictRow, full_cells, types_of};
+ghost use Rattle.rowexec.specs.Batch.{Finishes, StatedAs};
+ghost use Rattle.rowexec.specs.Rows.{EachHasRows, IsConstant, StrictRow, full_cells, types_of};
 ghost use Rattle.rowexec.specs.Visits.{ValidColumn};
 
 use super::finish::{mask_rows, null_column};
+use super::one_row::{is_one_row, repeated};
 use colbase::{ArrayRef, DType, ExecutionArgs, ExecutionCtx, Res, Validity};
 use rowplan::{BatchPlan, RowSpec, is_any_nullable};
 
@@ -26,13 +27,15 @@ pub(super) fn null_answer(
     ensures dtype { IfOk result (λ a. dtype a ≡ stated_type (plan_of plan.now).output (logical_types types.now)) }
     ensures len { IfOk result (λ a. len a ≡ row_count) }
     ensures rows { IfOk result (λ a. (i : ℕ) → row a i ≡ None) }
+    ensures constant { IfOk result IsConstant }
     ensures errors { IfErr result (λ e. e ≡ Memory) }
 {
     let result_dtype = plan.result_dtype(types, ctx)?;
     null_column(result_dtype, row_count, ctx)
 }
 
-/// The values with a null at each row that isn't full, under the label.
+/// The column of a call from the values of the rows that ran: a null at each row that isn't full, under the label. Where one row
+/// stands for all, its labelled value is repeated, so that a batch of constants is answered by a constant.
 pub(super) fn finish_values<F: RowSpec>(
     options: &F::Options,
     args: &ExecutionArgs,
@@ -43,14 +46,41 @@ pub(super) fn finish_values<F: RowSpec>(
     ctx: ExecutionCtx,
 ) -> Res<ArrayRef>
     requires types { logical_types types.now ≡ types_of args.now.columns }
-    requires plan { PlanOf (F.output options.now (types_of args.now.columns)).storage (F.output options.now (types_of args.now.columns)).label (F.policy options.now (types_of args.now.columns)) plan.now }
-    requires values { ValidColumn F.finish (F.meaning options.now (types_of args.now.columns)) (F.output options.now (types_of args.now.columns)).storage args.now.columns args.now.row_count values }
+    requires plan { PlanOf (F.law options.now (types_of args.now.columns)) plan.now }
+    requires values { ValidColumn (F.law options.now (types_of args.now.columns)) args.now.columns args.now.row_count values }
     requires tells { (i : ℕ) → i < args.now.row_count → valid_at full.now i ≡ is_some (full_cells args.now.columns i) }
     requires covers { Covers full.now args.now.row_count }
     requires nullable { validity_nullability full.now ≡ Nullable → any_nullable (types_of args.now.columns) ≡ true }
-    ensures dtype { IfOk result (λ a. StatedAs (F.output options.now (types_of args.now.columns)) (types_of args.now.columns) (dtype a)) }
+    requires rows { EachHasRows args.now.row_count args.now.columns }
+    ensures { Finishes (F.law options.now (types_of args.now.columns)) args.now.columns args.now.row_count result }
+{
+    let labelled = label_values::<F>(options, args, types, plan, values, full, ctx)?;
+    if is_one_row(args.columns(), args.row_count()) {
+        return repeated(&labelled, args.row_count(), ctx);
+    }
+    Ok(labelled)
+}
+
+// The values with a null at each row that isn't full, under the label.
+fn label_values<F: RowSpec>(
+    options: &F::Options,
+    args: &ExecutionArgs,
+    types: &[DType],
+    plan: &BatchPlan,
+    values: ArrayRef,
+    full: &Validity,
+    ctx: ExecutionCtx,
+) -> Res<ArrayRef>
+    requires types { logical_types types.now ≡ types_of args.now.columns }
+    requires plan { PlanOf (F.law options.now (types_of args.now.columns)) plan.now }
+    requires values { ValidColumn (F.law options.now (types_of args.now.columns)) args.now.columns args.now.row_count values }
+    requires tells { (i : ℕ) → i < args.now.row_count → valid_at full.now i ≡ is_some (full_cells args.now.columns i) }
+    requires covers { Covers full.now args.now.row_count }
+    requires nullable { validity_nullability full.now ≡ Nullable → any_nullable (types_of args.now.columns) ≡ true }
+    ensures dtype { IfOk result (λ a. StatedAs (F.law options.now (types_of args.now.columns)) (types_of args.now.columns) (dtype a)) }
     ensures len { IfOk result (λ a. len a ≡ args.now.row_count) }
-    ensures rows { IfOk result (λ a. (i : ℕ) → i < args.now.row_count → StrictRow F.finish (F.meaning options.now (types_of args.now.columns)) (full_cells args.now.columns i) (row a i)) }
+    ensures rows { IfOk result (λ a. (i : ℕ) → i < args.now.row_count → StrictRow (F.law options.now (types_of args.now.columns))
+        (full_cells args.now.columns i) (row a i)) }
     ensures errors { IfErr result (λ e. e ≡ Memory) }
 {
     let masked = mask_rows(values, full, is_any_nullable(types), ctx)?;

@@ -1,5 +1,5 @@
 // What a call is given: its number of columns, their lengths and their types. They are tested before the function is asked.
-ghost use Rattle.std.specs.Prelude.{◌≡◌, IfOk, MatchResult};
+ghost use Rattle.std.specs.Prelude.{◌≡◌, length, IfOk, MatchResult};
 ghost use Rattle.rowtypes.specs.Rows.{logical_types};
 ghost use Rattle.rowexec.specs.Batch.{Fits, Misfits};
 ghost use Rattle.rowexec.specs.Rows.{types_of, wrong_length};
@@ -11,7 +11,8 @@ use std::alloc::{AllocError, Global};
 
 /// Refuses another number of columns than the function has, and then the first column of another length.
 pub(super) fn check_arguments<F: RowSpec>(args: &ExecutionArgs) -> Res<()>
-    ensures { MatchResult result (λ _. Fits F.arity args.now.row_count args.now.columns) (Misfits F.arity args.now.row_count args.now.columns) }
+    ensures { MatchResult result (λ _. Fits (length F.names) args.now.row_count args.now.columns)
+        (Misfits (length F.names) args.now.row_count args.now.columns) }
 {
     let expected = F::names_of_arguments().len();
     let actual = args.num_inputs();
@@ -22,6 +23,14 @@ pub(super) fn check_arguments<F: RowSpec>(args: &ExecutionArgs) -> Res<()>
         Some(fault) => Err(fault),
         None => Ok(()),
     }
+}
+
+/// The same of a call with these options.
+pub(super) fn check_call<F: RowSpec>(_options: &F::Options, args: &ExecutionArgs) -> Res<()>
+    ensures { MatchResult result (λ _. Fits (F.law _options.now (types_of args.now.columns)).arity args.now.row_count args.now.columns)
+        (Misfits (F.law _options.now (types_of args.now.columns)).arity args.now.row_count args.now.columns) }
+{
+    check_arguments::<F>(args)
 }
 
 fn wrong_length(columns: &[ArrayRef], row_count: usize) -> Option<Fault>

@@ -1,16 +1,12 @@
 // The whole call, with the calls that it took: checks and plan, the answers that need no row, and the runs that the policy chooses.
-ghost use Rattle.std.specs.Prelude.{◌≡◌, ◌≢◌, ◌<◌, ◌≤◌, ◌⊎◌, ℕ, length, true, false, None, Err, IfOk, IfErr, MatchOption, MatchResult, is_some};
-ghost use Rattle.colbase.specs.Arrays.{dtype, len, row};
-ghost use Rattle.coltypes.specs.declared.fault.Fault.TheVariants.{Arity, Memory};
+ghost use Rattle.std.specs.Prelude.{◌≡◌, ◌≢◌, ◌<◌, ◌≤◌, ◌⊎◌, ℕ, length, false, None, Err, IfOk, IfErr, is_some};
+ghost use Rattle.colbase.specs.Arrays.{row};
 ghost use Rattle.rowtypes.specs.Rows.{logical_types};
 ghost use Rattle.rowplan.specs.Plans.{PlanOf};
-ghost use Rattle.rowexec.specs.Batch.{Cause, Fits, Planned, StatedAs};
+ghost use Rattle.rowexec.specs.Batch.{CallsNothing, Counts, Executes, ExecutesPlanned, Fits, Planned};
 ghost use Rattle.coltypes.specs.Valid.{Covers, valid_at};
-ghost use Rattle.rowexec.specs.Counts.{dense_accepted, most_prepares, settled, steps_asked};
-ghost use Rattle.rowexec.specs.Evidence.{EvidenceFails, joined};
-ghost use Rattle.rowexec.specs.Reads.{ReadFails};
-ghost use Rattle.rowexec.specs.Rows.{EachHasRows, StrictRow, full_cells, some_all_null, types_of};
-ghost use Rattle.rowexec.specs.Visits.{ValidColumn};
+ghost use Rattle.rowexec.specs.Rows.{EachHasRows, full_cells, some_all_null, types_of};
+ghost use Rattle.rowexec.specs.Visits.{RunsCall, Unsettled};
 
 use super::answer::{finish_values, null_answer};
 use super::dense::execute_dense;
@@ -43,18 +39,11 @@ pub fn execute_rows_counted<F: RowFn>(
     args: &ExecutionArgs,
     ctx: ExecutionCtx,
 ) -> Counted
-    ensures arity { length args.now.columns ≢ F.arity → result.answer ≡ Err (Arity F.arity (length args.now.columns)) }
-    ensures fits { IfOk result.answer (λ _. Fits F.arity args.now.row_count args.now.columns) }
-    ensures planned { IfOk result.answer (λ _. Planned (F.accepts options.now (types_of args.now.columns)) (F.fits options.now (types_of args.now.columns)) (F.output options.now (types_of args.now.columns)) (types_of args.now.columns)) }
-    ensures dtype { IfOk result.answer (λ a. StatedAs (F.output options.now (types_of args.now.columns)) (types_of args.now.columns) (dtype a)) }
-    ensures len { IfOk result.answer (λ a. len a ≡ args.now.row_count) }
-    ensures rows { IfOk result.answer (λ a. (i : ℕ) → i < args.now.row_count → StrictRow F.finish (F.meaning options.now (types_of args.now.columns)) (full_cells args.now.columns i) (row a i)) }
-    ensures errors { IfErr result.answer (Cause F.arity args.now.row_count args.now.columns (F.accepts options.now (types_of args.now.columns)) (F.fits options.now (types_of args.now.columns)) (F.output options.now (types_of args.now.columns)) (F.policy options.now (types_of args.now.columns)) (F.reads options.now (types_of args.now.columns)) (EvidenceFails (F.deferred options.now (types_of args.now.columns)) F.finish (joined F.Evidence.join F.Evidence.neutral (F.meaning options.now (types_of args.now.columns)) (full_cells args.now.columns) args.now.row_count))) }
-    ensures most { result.steps ≤ steps_asked (F.policy options.now (types_of args.now.columns)) (dense_accepted F.finish F.Evidence.join F.Evidence.neutral (F.meaning options.now (types_of args.now.columns)) (F.shown options.now (types_of args.now.columns)) args.now.columns args.now.row_count) args.now.row_count args.now.columns }
-    ensures least { IfOk result.answer (λ _. steps_asked (F.policy options.now (types_of args.now.columns)) (dense_accepted F.finish F.Evidence.join F.Evidence.neutral (F.meaning options.now (types_of args.now.columns)) (F.shown options.now (types_of args.now.columns)) args.now.columns args.now.row_count) args.now.row_count args.now.columns ≤ result.steps) }
-    ensures prepares { result.prepares ≤ most_prepares (F.policy options.now (types_of args.now.columns)) }
-    ensures none { some_all_null args.now.columns ≡ true → result.prepares ≡ 0 }
-    ensures refused { (Fits F.arity args.now.row_count args.now.columns → Planned (F.accepts options.now (types_of args.now.columns)) (F.fits options.now (types_of args.now.columns)) (F.output options.now (types_of args.now.columns)) (types_of args.now.columns) → ⊥) → (result.prepares ≡ 0) × (result.steps ≡ 0) }
+    ensures executes { Executes (F.law options.now (types_of args.now.columns)) args.now.columns args.now.row_count result.answer }
+    ensures counts { Counts (F.law options.now (types_of args.now.columns)) args.now.columns args.now.row_count result.answer
+        result.prepares result.steps }
+    ensures refused { CallsNothing (F.law options.now (types_of args.now.columns)) args.now.columns args.now.row_count result.prepares
+        result.steps }
 {
     match plan_call(function, options, args, ctx) {
         Ok(call) => execute_planned(
@@ -92,17 +81,12 @@ fn execute_planned<F: RowFn>(
     ctx: ExecutionCtx,
 ) -> Counted
     requires types { logical_types types.now ≡ types_of args.now.columns }
-    requires fits { Fits F.arity args.now.row_count args.now.columns }
-    requires planned { Planned (F.accepts options.now (types_of args.now.columns)) (F.fits options.now (types_of args.now.columns)) (F.output options.now (types_of args.now.columns)) (types_of args.now.columns) }
-    requires plan { PlanOf (F.output options.now (types_of args.now.columns)).storage (F.output options.now (types_of args.now.columns)).label (F.policy options.now (types_of args.now.columns)) plan.now }
-    ensures dtype { IfOk result.answer (λ a. StatedAs (F.output options.now (types_of args.now.columns)) (types_of args.now.columns) (dtype a)) }
-    ensures len { IfOk result.answer (λ a. len a ≡ args.now.row_count) }
-    ensures rows { IfOk result.answer (λ a. (i : ℕ) → i < args.now.row_count → StrictRow F.finish (F.meaning options.now (types_of args.now.columns)) (full_cells args.now.columns i) (row a i)) }
-    ensures errors { IfErr result.answer (λ e. (e ≡ Memory) ⊎ ((settled (F.policy options.now (types_of args.now.columns)) args.now.row_count args.now.columns ≡ false) × (ReadFails (F.reads options.now (types_of args.now.columns)) 0 args.now.columns e ⊎ EvidenceFails (F.deferred options.now (types_of args.now.columns)) F.finish (joined F.Evidence.join F.Evidence.neutral (F.meaning options.now (types_of args.now.columns)) (full_cells args.now.columns) args.now.row_count) e))) }
-    ensures most { result.steps ≤ steps_asked (F.policy options.now (types_of args.now.columns)) (dense_accepted F.finish F.Evidence.join F.Evidence.neutral (F.meaning options.now (types_of args.now.columns)) (F.shown options.now (types_of args.now.columns)) args.now.columns args.now.row_count) args.now.row_count args.now.columns }
-    ensures least { IfOk result.answer (λ _. steps_asked (F.policy options.now (types_of args.now.columns)) (dense_accepted F.finish F.Evidence.join F.Evidence.neutral (F.meaning options.now (types_of args.now.columns)) (F.shown options.now (types_of args.now.columns)) args.now.columns args.now.row_count) args.now.row_count args.now.columns ≤ result.steps) }
-    ensures prepares { result.prepares ≤ most_prepares (F.policy options.now (types_of args.now.columns)) }
-    ensures none { some_all_null args.now.columns ≡ true → result.prepares ≡ 0 }
+    requires fits { Fits (F.law options.now (types_of args.now.columns)).arity args.now.row_count args.now.columns }
+    requires planned { Planned (F.law options.now (types_of args.now.columns)) (types_of args.now.columns) }
+    requires plan { PlanOf (F.law options.now (types_of args.now.columns)) plan.now }
+    ensures executes { ExecutesPlanned (F.law options.now (types_of args.now.columns)) args.now.columns args.now.row_count result.answer }
+    ensures counts { Counts (F.law options.now (types_of args.now.columns)) args.now.columns args.now.row_count result.answer
+        result.prepares result.steps }
 {
     if is_some_all_null(args.columns(), args.row_count()) {
         return without_calls(null_answer(types, plan, args.row_count(), ctx));
@@ -139,18 +123,16 @@ fn execute_selected<F: RowFn>(
     ctx: ExecutionCtx,
 ) -> Visited<Option<ArrayRef>>
     requires types { logical_types types.now ≡ types_of args.now.columns }
-    requires arity { length args.now.columns ≡ F.arity }
+    requires arity { length args.now.columns ≡ (F.law options.now (types_of args.now.columns)).arity }
     requires rows { EachHasRows args.now.row_count args.now.columns }
-    requires planned { Planned (F.accepts options.now (types_of args.now.columns)) (F.fits options.now (types_of args.now.columns)) (F.output options.now (types_of args.now.columns)) (types_of args.now.columns) }
-    requires plan { PlanOf (F.output options.now (types_of args.now.columns)).storage (F.output options.now (types_of args.now.columns)).label (F.policy options.now (types_of args.now.columns)) plan.now }
+    requires planned { Planned (F.law options.now (types_of args.now.columns)) (types_of args.now.columns) }
+    requires plan { PlanOf (F.law options.now (types_of args.now.columns)) plan.now }
     requires some { some_all_null args.now.columns ≡ false }
     requires tells { (i : ℕ) → i < args.now.row_count → valid_at full.now i ≡ is_some (full_cells args.now.columns i) }
     requires covers { Covers full.now args.now.row_count }
-    ensures answered { MatchResult result.answer (λ o. MatchOption o ((0 < args.now.row_count) × ((i : ℕ) → i < args.now.row_count → full_cells args.now.columns i ≡ None)) (ValidColumn F.finish (F.meaning options.now (types_of args.now.columns)) (F.output options.now (types_of args.now.columns)).storage args.now.columns args.now.row_count)) (λ e. ReadFails (F.reads options.now (types_of args.now.columns)) 0 args.now.columns e ⊎ EvidenceFails (F.deferred options.now (types_of args.now.columns)) F.finish (joined F.Evidence.join F.Evidence.neutral (F.meaning options.now (types_of args.now.columns)) (full_cells args.now.columns) args.now.row_count) e) }
-    ensures unsettled { IfErr result.answer (λ e. settled (F.policy options.now (types_of args.now.columns)) args.now.row_count args.now.columns ≡ false) }
-    ensures prepares { result.prepares ≤ most_prepares (F.policy options.now (types_of args.now.columns)) }
-    ensures most { result.steps ≤ steps_asked (F.policy options.now (types_of args.now.columns)) (dense_accepted F.finish F.Evidence.join F.Evidence.neutral (F.meaning options.now (types_of args.now.columns)) (F.shown options.now (types_of args.now.columns)) args.now.columns args.now.row_count) args.now.row_count args.now.columns }
-    ensures least { IfOk result.answer (λ _. steps_asked (F.policy options.now (types_of args.now.columns)) (dense_accepted F.finish F.Evidence.join F.Evidence.neutral (F.meaning options.now (types_of args.now.columns)) (F.shown options.now (types_of args.now.columns)) args.now.columns args.now.row_count) args.now.row_count args.now.columns ≤ result.steps) }
+    ensures runs { RunsCall (F.law options.now (types_of args.now.columns)) args.now.columns args.now.row_count result.answer
+        result.prepares result.steps }
+    ensures unsettled { Unsettled (F.law options.now (types_of args.now.columns)) args.now.columns args.now.row_count result.answer }
 {
     let columns = args.columns();
     let row_count = args.row_count();

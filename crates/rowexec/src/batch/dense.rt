@@ -1,10 +1,9 @@
 // Execution of all rows on what the columns show, under nulls too: by the policy, or where there are none.
 ghost use Rattle.std.specs.Prelude.{◌≡◌, ◌⊎◌, length, true};
-ghost use Rattle.rowtypes.specs.Rows.{DecodeFails, decoded_lengths, each_length, logical_types};
+ghost use Rattle.rowtypes.specs.Rows.{decoded_lengths, each_length, logical_types};
 ghost use Rattle.rowexec.specs.Batch.{Planned};
-ghost use Rattle.rowexec.specs.Evidence.{EvidenceFails, joined};
-ghost use Rattle.rowexec.specs.Rows.{full_cells, types_of};
-ghost use Rattle.rowexec.specs.Visits.{DenseColumn, MayRunAll, RanRows};
+ghost use Rattle.rowexec.specs.Rows.{types_of};
+ghost use Rattle.rowexec.specs.Visits.{MayRunAll, RunsDense};
 
 use crate::visitor::{ExecuteRows, Visited};
 use colbase::{ArrayRef, DType, ExecutionCtx, Res};
@@ -20,11 +19,12 @@ pub(super) fn execute_dense<F: RowFn>(
     ctx: ExecutionCtx,
 ) -> Visited<ArrayRef>
     requires types { logical_types types.now ≡ types_of columns.now }
-    requires arity { length columns.now ≡ F.arity }
-    requires planned { Planned (F.accepts options.now (types_of columns.now)) (F.fits options.now (types_of columns.now)) (F.output options.now (types_of columns.now)) (types_of columns.now) }
+    requires arity { length columns.now ≡ (F.law options.now (types_of columns.now)).arity }
+    requires planned { Planned (F.law options.now (types_of columns.now)) (types_of columns.now) }
     requires asked { each_length row_count (decoded_lengths columns.now) ≡ true }
-    requires runs { MayRunAll (F.policy options.now (types_of columns.now)) row_count columns.now }
-    ensures { RanRows row_count (DenseColumn F.finish (F.meaning options.now (types_of columns.now)) (F.shown options.now (types_of columns.now)) (F.output options.now (types_of columns.now)).storage columns.now row_count) (λ e. DecodeFails (F.reads options.now (types_of columns.now)) 0 columns.now e ⊎ EvidenceFails (F.deferred options.now (types_of columns.now)) F.finish (joined F.Evidence.join F.Evidence.neutral (F.meaning options.now (types_of columns.now)) (full_cells columns.now) row_count) e) result.answer result.prepares result.steps }
+    requires runs { MayRunAll (F.law options.now (types_of columns.now)).policy row_count columns.now }
+    ensures { RunsDense (F.law options.now (types_of columns.now)) columns.now row_count row_count result.answer result.prepares
+        result.steps }
 {
     let visitor = ExecuteRows::<F> {
         options,

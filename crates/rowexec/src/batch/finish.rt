@@ -1,12 +1,13 @@
 // From the values of all rows to the column that a batch answers: the mask of the full rows, and the nullability that is stated,
 // which goes by the types of the arguments and not by their nulls.
-ghost use Rattle.std.specs.Prelude.{◌≡◌, ◌<◌, ℕ, true, Option, None, is_some, IfOk, IfErr};
+ghost use Rattle.std.specs.Prelude.{◌≡◌, ◌<◌, ℕ, true, None, IfOk, IfErr};
 ghost use Rattle.colbase.specs.Arrays.{dtype, len, row};
 ghost use Rattle.coltypes.specs.LogicalType.{nullability_of};
 ghost use Rattle.coltypes.specs.LogicalTypeOf.{logical_type};
 ghost use Rattle.coltypes.specs.Valid.{Covers, valid_at, validity_nullability};
 ghost use Rattle.rowplan.specs.Outputs.{made_nullable};
 ghost use Rattle.rowexec.specs.Masks.{null_unless};
+ghost use Rattle.rowexec.specs.Rows.{IsConstant};
 
 use colbase::{
     ArrayRef, ConstantArray, DType, ExecutionCtx, Fault, Nullability, Res, Scalar, Validity,
@@ -57,6 +58,7 @@ pub(super) fn null_column(stated: DType, row_count: usize, ctx: ExecutionCtx) ->
     ensures dtype { IfOk result (λ a. dtype a ≡ logical_type stated) }
     ensures len { IfOk result (λ a. len a ≡ row_count) }
     ensures rows { IfOk result (λ a. (i : ℕ) → row a i ≡ None) }
+    ensures constant { IfOk result IsConstant }
     ensures errors { IfErr result (λ e. e ≡ Fault.Memory) }
 {
     ConstantArray::try_new(Scalar::null(stated), row_count, ctx)

@@ -2,12 +2,11 @@
 ghost use Rattle.std.specs.Prelude.{◌≡◌, ◌<◌, ◌⊎◌, ℕ, length, true, IfOk, IfErr};
 ghost use Rattle.colbase.specs.Arrays.{dtype, len, row};
 ghost use Rattle.coltypes.specs.declared.fault.Fault.TheVariants.{Memory};
-ghost use Rattle.rowtypes.specs.Rows.{DecodeFails, logical_types};
+ghost use Rattle.rowtypes.specs.Rows.{logical_types};
 ghost use Rattle.rowexec.specs.Batch.{Planned};
 ghost use Rattle.rowexec.specs.Counts.{each_one_value, is_one_value, one_row};
-ghost use Rattle.rowexec.specs.Evidence.{EvidenceFails, joined};
-ghost use Rattle.rowexec.specs.Rows.{EachHasRows, full_cells, types_of};
-ghost use Rattle.rowexec.specs.Visits.{DenseColumn, RanRows};
+ghost use Rattle.rowexec.specs.Rows.{EachHasRows, IsConstant, types_of};
+ghost use Rattle.rowexec.specs.Visits.{RunsDense};
 
 use super::dense::execute_dense;
 use crate::visitor::Visited;
@@ -55,11 +54,11 @@ pub(super) fn execute_one_row<F: RowFn>(
     ctx: ExecutionCtx,
 ) -> Visited<ArrayRef>
     requires types { logical_types types.now ≡ types_of columns.now }
-    requires arity { length columns.now ≡ F.arity }
-    requires planned { Planned (F.accepts options.now (types_of columns.now)) (F.fits options.now (types_of columns.now)) (F.output options.now (types_of columns.now)) (types_of columns.now) }
+    requires arity { length columns.now ≡ (F.law options.now (types_of columns.now)).arity }
+    requires planned { Planned (F.law options.now (types_of columns.now)) (types_of columns.now) }
     requires rows { EachHasRows row_count columns.now }
     requires one { one_row row_count columns.now ≡ true }
-    ensures { RanRows 1 (DenseColumn F.finish (F.meaning options.now (types_of columns.now)) (F.shown options.now (types_of columns.now)) (F.output options.now (types_of columns.now)).storage columns.now row_count) (λ e. DecodeFails (F.reads options.now (types_of columns.now)) 0 columns.now e ⊎ EvidenceFails (F.deferred options.now (types_of columns.now)) F.finish (joined F.Evidence.join F.Evidence.neutral (F.meaning options.now (types_of columns.now)) (full_cells columns.now) row_count) e) result.answer result.prepares result.steps }
+    ensures { RunsDense (F.law options.now (types_of columns.now)) columns.now row_count 1 result.answer result.prepares result.steps }
 {
     let Visited {
         answer,
@@ -77,12 +76,13 @@ pub(super) fn execute_one_row<F: RowFn>(
     }
 }
 
-// The first row in each of this many rows, as a constant.
-fn repeated(values: &ArrayRef, row_count: usize, ctx: ExecutionCtx) -> Res<ArrayRef>
+/// The first row in each of this many rows, as a constant.
+pub(super) fn repeated(values: &ArrayRef, row_count: usize, ctx: ExecutionCtx) -> Res<ArrayRef>
     requires { 0 < len values.now }
     ensures dtype { IfOk result (λ a. dtype a ≡ dtype values.now) }
     ensures len { IfOk result (λ a. len a ≡ row_count) }
     ensures rows { IfOk result (λ a. (i : ℕ) → row a i ≡ row values.now 0) }
+    ensures constant { IfOk result IsConstant }
     ensures errors { IfErr result (λ e. e ≡ Memory) }
 {
     let first = values.scalar_at(0, ctx)?;

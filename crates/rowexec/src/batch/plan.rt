@@ -4,10 +4,9 @@ ghost use Rattle.coltypes.specs.declared.fault.Fault.TheVariants.{Arity, Memory}
 ghost use Rattle.rowtypes.specs.Rows.{logical_types};
 ghost use Rattle.rowplan.specs.Plans.{PlanOf};
 ghost use Rattle.rowexec.specs.Batch.{Cause, Fits, Planned, Unplanned};
-ghost use Rattle.rowexec.specs.Evidence.{EvidenceFails, joined};
-ghost use Rattle.rowexec.specs.Rows.{full_cells, types_of};
+ghost use Rattle.rowexec.specs.Rows.{types_of};
 
-use super::arguments::{argument_types, check_arguments};
+use super::arguments::{argument_types, check_call};
 use colbase::{DType, ExecutionArgs, ExecutionCtx, Res};
 use rowplan::{BatchPlan, BatchPlanner, RowFn};
 use smallvec::SmallVec;
@@ -27,14 +26,15 @@ pub(super) fn plan_call<F: RowFn>(
     args: &ExecutionArgs,
     ctx: ExecutionCtx,
 ) -> Res<PlannedCall>
-    ensures arity { length args.now.columns ≢ F.arity → result ≡ Err (Arity F.arity (length args.now.columns)) }
+    ensures arity { length args.now.columns ≢ (F.law options.now (types_of args.now.columns)).arity → result ≡ Err
+        (Arity (F.law options.now (types_of args.now.columns)).arity (length args.now.columns)) }
     ensures types { IfOk result (λ p. logical_types p.types.items ≡ types_of args.now.columns) }
-    ensures fits { IfOk result (λ _. Fits F.arity args.now.row_count args.now.columns) }
-    ensures planned { IfOk result (λ _. Planned (F.accepts options.now (types_of args.now.columns)) (F.fits options.now (types_of args.now.columns)) (F.output options.now (types_of args.now.columns)) (types_of args.now.columns)) }
-    ensures plan { IfOk result (λ p. PlanOf (F.output options.now (types_of args.now.columns)).storage (F.output options.now (types_of args.now.columns)).label (F.policy options.now (types_of args.now.columns)) p.plan) }
-    ensures errors { IfErr result (Cause F.arity args.now.row_count args.now.columns (F.accepts options.now (types_of args.now.columns)) (F.fits options.now (types_of args.now.columns)) (F.output options.now (types_of args.now.columns)) (F.policy options.now (types_of args.now.columns)) (F.reads options.now (types_of args.now.columns)) (EvidenceFails (F.deferred options.now (types_of args.now.columns)) F.finish (joined F.Evidence.join F.Evidence.neutral (F.meaning options.now (types_of args.now.columns)) (full_cells args.now.columns) args.now.row_count))) }
+    ensures fits { IfOk result (λ _. Fits (F.law options.now (types_of args.now.columns)).arity args.now.row_count args.now.columns) }
+    ensures planned { IfOk result (λ _. Planned (F.law options.now (types_of args.now.columns)) (types_of args.now.columns)) }
+    ensures plan { IfOk result (λ p. PlanOf (F.law options.now (types_of args.now.columns)) p.plan) }
+    ensures errors { IfErr result (Cause (F.law options.now (types_of args.now.columns)) args.now.columns args.now.row_count) }
 {
-    check_arguments::<F>(args)?;
+    check_call::<F>(options, args)?;
     let types = argument_types(args.columns(), ctx.alloc())?;
     let plan = plan_batch(function, options, types.as_slice(), ctx)?;
     Ok(PlannedCall { types, plan })
@@ -47,10 +47,10 @@ pub(super) fn plan_batch<F: RowFn>(
     types: &[DType],
     ctx: ExecutionCtx,
 ) -> Res<BatchPlan>
-    requires { length types.now ≡ F.arity }
-    ensures planned { IfOk result (λ _. Planned (F.accepts options.now (logical_types types.now)) (F.fits options.now (logical_types types.now)) (F.output options.now (logical_types types.now)) (logical_types types.now)) }
-    ensures plan { IfOk result (PlanOf (F.output options.now (logical_types types.now)).storage (F.output options.now (logical_types types.now)).label (F.policy options.now (logical_types types.now))) }
-    ensures errors { IfErr result (λ e. (e ≡ Memory) ⊎ Unplanned (F.accepts options.now (logical_types types.now)) (F.fits options.now (logical_types types.now)) (F.output options.now (logical_types types.now)) (logical_types types.now) e) }
+    requires { length types.now ≡ (F.law options.now (logical_types types.now)).arity }
+    ensures planned { IfOk result (λ _. Planned (F.law options.now (logical_types types.now)) (logical_types types.now)) }
+    ensures plan { IfOk result (PlanOf (F.law options.now (logical_types types.now))) }
+    ensures errors { IfErr result (λ e. (e ≡ Memory) ⊎ Unplanned (F.law options.now (logical_types types.now)) (logical_types types.now) e) }
 {
     let planner = BatchPlanner::<F>::new(options, types, ctx);
     function.dispatch(options, types, planner, ctx)

@@ -1,16 +1,15 @@
 // Execution of all rows, and of the rows without a null argument where its evidence is rejected: the evidence of the first run may
 // come from a value under a null, so it only tells that the second is needed.
-ghost use Rattle.std.specs.Prelude.{◌≡◌, ◌<◌, ◌≤◌, ◌⊎◌, ℕ, length, true, None, Some, is_some, IfOk, MatchOption, MatchResult};
+ghost use Rattle.std.specs.Prelude.{◌≡◌, ◌<◌, ◌≤◌, ◌⊎◌, ℕ, length, None, Some, is_some, IfOk};
 ghost use Rattle.coltypes.specs.Keep.{trues};
 ghost use Rattle.coltypes.specs.Valid.{Covers, valid_at};
-ghost use Rattle.rowtypes.specs.Rows.{DecodeFails, decoded_lengths, each_length, logical_types};
+ghost use Rattle.rowtypes.specs.Rows.{logical_types};
 ghost use Rattle.rowplan.specs.declared.batch_plan.RowPolicy.TheVariants.{DenseWithRetry as dense_with_retry};
 ghost use Rattle.rowexec.specs.Batch.{Planned};
-ghost use Rattle.rowexec.specs.Counts.{dense_accepted, full_bits, policy_steps, retried};
-ghost use Rattle.rowexec.specs.Evidence.{EvidenceFails, joined, shown_cells};
-ghost use Rattle.rowexec.specs.Reads.{ReadFails};
+ghost use Rattle.rowexec.specs.Counts.{full_bits, policy_steps_of, retried};
 ghost use Rattle.rowexec.specs.Rows.{EachHasRows, full_cells, types_of};
-ghost use Rattle.rowexec.specs.Visits.{Attempted, RanRows, ShowsFull, ValidColumn};
+ghost use Rattle.rowexec.specs.Visits.{Attempted, RunsAttempt, RunsSteps};
+ghost use Rattle.rowloops.specs.declared.retry.DenseAttempt.TheVariants.{DeferredError};
 
 use super::selection::{Selection, select_valid};
 use super::valid::execute_valid;
@@ -31,16 +30,14 @@ pub(super) fn execute_with_retry<F: RowFn>(
     ctx: ExecutionCtx,
 ) -> Visited<Option<ArrayRef>>
     requires types { logical_types types.now ≡ types_of columns.now }
-    requires arity { length columns.now ≡ F.arity }
-    requires planned { Planned (F.accepts options.now (types_of columns.now)) (F.fits options.now (types_of columns.now)) (F.output options.now (types_of columns.now)) (types_of columns.now) }
+    requires arity { length columns.now ≡ (F.law options.now (types_of columns.now)).arity }
+    requires planned { Planned (F.law options.now (types_of columns.now)) (types_of columns.now) }
     requires rows { EachHasRows row_count columns.now }
     requires tells { (i : ℕ) → i < row_count → valid_at full.now i ≡ is_some (full_cells columns.now i) }
     requires covers { Covers full.now row_count }
-    requires policy { F.policy options.now (types_of columns.now) ≡ dense_with_retry }
-    ensures answered { MatchResult result.answer (λ o. MatchOption o ((0 < row_count) × ((i : ℕ) → i < row_count → full_cells columns.now i ≡ None)) (ValidColumn F.finish (F.meaning options.now (types_of columns.now)) (F.output options.now (types_of columns.now)).storage columns.now row_count)) (λ e. ReadFails (F.reads options.now (types_of columns.now)) 0 columns.now e ⊎ EvidenceFails (F.deferred options.now (types_of columns.now)) F.finish (joined F.Evidence.join F.Evidence.neutral (F.meaning options.now (types_of columns.now)) (full_cells columns.now) row_count) e) }
-    ensures prepares { result.prepares ≤ 2 }
-    ensures most { result.steps ≤ policy_steps (F.policy options.now (types_of columns.now)) (dense_accepted F.finish F.Evidence.join F.Evidence.neutral (F.meaning options.now (types_of columns.now)) (F.shown options.now (types_of columns.now)) columns.now row_count) row_count columns.now }
-    ensures least { IfOk result.answer (λ _. policy_steps (F.policy options.now (types_of columns.now)) (dense_accepted F.finish F.Evidence.join F.Evidence.neutral (F.meaning options.now (types_of columns.now)) (F.shown options.now (types_of columns.now)) columns.now row_count) row_count columns.now ≤ result.steps) }
+    requires policy { (F.law options.now (types_of columns.now)).policy ≡ dense_with_retry }
+    ensures { RunsSteps (F.law options.now (types_of columns.now)) columns.now row_count
+        (policy_steps_of (F.law options.now (types_of columns.now)) columns.now row_count) 2 result.answer result.prepares result.steps }
 {
     let Visited {
         answer,
@@ -77,11 +74,11 @@ fn execute_attempt<F: RowFn>(
     ctx: ExecutionCtx,
 ) -> Visited<DenseAttempt>
     requires types { logical_types types.now ≡ types_of columns.now }
-    requires arity { length columns.now ≡ F.arity }
-    requires planned { Planned (F.accepts options.now (types_of columns.now)) (F.fits options.now (types_of columns.now)) (F.output options.now (types_of columns.now)) (types_of columns.now) }
+    requires arity { length columns.now ≡ (F.law options.now (types_of columns.now)).arity }
+    requires planned { Planned (F.law options.now (types_of columns.now)) (types_of columns.now) }
     requires rows { EachHasRows row_count columns.now }
-    requires policy { F.policy options.now (types_of columns.now) ≡ dense_with_retry }
-    ensures { RanRows row_count (Attempted (F.deferred options.now (types_of columns.now)) F.finish F.Evidence.join F.Evidence.neutral (F.meaning options.now (types_of columns.now)) (F.shown options.now (types_of columns.now)) (F.output options.now (types_of columns.now)).storage columns.now row_count) (DecodeFails (F.reads options.now (types_of columns.now)) 0 columns.now) result.answer result.prepares result.steps }
+    requires policy { (F.law options.now (types_of columns.now)).policy ≡ dense_with_retry }
+    ensures { RunsAttempt (F.law options.now (types_of columns.now)) columns.now row_count result.answer result.prepares result.steps }
 {
     let visitor = ExecuteDenseWithRetry::<F> {
         options,
@@ -109,18 +106,14 @@ fn resolve_rejected<F: RowFn>(
     ctx: ExecutionCtx,
 ) -> Visited<Option<ArrayRef>>
     requires types { logical_types types.now ≡ types_of columns.now }
-    requires arity { length columns.now ≡ F.arity }
-    requires planned { Planned (F.accepts options.now (types_of columns.now)) (F.fits options.now (types_of columns.now)) (F.output options.now (types_of columns.now)) (types_of columns.now) }
+    requires arity { length columns.now ≡ (F.law options.now (types_of columns.now)).arity }
+    requires planned { Planned (F.law options.now (types_of columns.now)) (types_of columns.now) }
     requires rows { EachHasRows row_count columns.now }
     requires tells { (i : ℕ) → i < row_count → valid_at full.now i ≡ is_some (full_cells columns.now i) }
     requires covers { Covers full.now row_count }
-    requires deferred { F.deferred options.now (types_of columns.now) ≡ true }
-    requires rejected { F.finish (joined F.Evidence.join F.Evidence.neutral (F.meaning options.now (types_of columns.now)) (shown_cells (F.shown options.now (types_of columns.now)) columns.now) row_count) ≡ Some error.0 }
-    requires shows { ShowsFull (F.shown options.now (types_of columns.now)) columns.now }
-    ensures answered { MatchResult result.answer (λ o. MatchOption o ((0 < row_count) × ((i : ℕ) → i < row_count → full_cells columns.now i ≡ None)) (ValidColumn F.finish (F.meaning options.now (types_of columns.now)) (F.output options.now (types_of columns.now)).storage columns.now row_count)) (λ e. ReadFails (F.reads options.now (types_of columns.now)) 0 columns.now e ⊎ EvidenceFails (F.deferred options.now (types_of columns.now)) F.finish (joined F.Evidence.join F.Evidence.neutral (F.meaning options.now (types_of columns.now)) (full_cells columns.now) row_count) e) }
-    ensures prepares { result.prepares ≤ 1 }
-    ensures most { result.steps ≤ retried (trues (full_bits row_count columns.now)) row_count }
-    ensures least { IfOk result.answer (λ _. retried (trues (full_bits row_count columns.now)) row_count ≤ result.steps) }
+    requires rejected { Attempted (F.law options.now (types_of columns.now)) columns.now row_count (DeferredError error) }
+    ensures { RunsSteps (F.law options.now (types_of columns.now)) columns.now row_count
+        (retried (trues (full_bits row_count columns.now)) row_count) 1 result.answer result.prepares result.steps }
 {
     match select_valid(full, row_count) {
         Selection::Valid(bits) => {

@@ -2,15 +2,12 @@
 // on columns that are filtered to these rows.
 ghost use Rattle.std.specs.Prelude.{◌≡◌, ◌<◌, ◌⊎◌, ℕ, length, is_some, IfOk, IfErr};
 ghost use Rattle.bitlane.specs.Bits.{bit};
-ghost use Rattle.coltypes.specs.Keep.{trues};
 ghost use Rattle.coltypes.specs.declared.fault.Fault.TheVariants.{Memory};
-ghost use Rattle.rowtypes.specs.Rows.{DecodeFails, logical_types};
+ghost use Rattle.rowtypes.specs.Rows.{logical_types};
 ghost use Rattle.rowexec.specs.Batch.{Planned};
-ghost use Rattle.rowexec.specs.Evidence.{EvidenceFails, joined};
-ghost use Rattle.rowexec.specs.Reads.{ReadFails};
 ghost use Rattle.rowexec.specs.Rows.{EachHasRows, full_cells, types_of};
 ghost use Rattle.rowexec.specs.Selections.{FilteredFrom};
-ghost use Rattle.rowexec.specs.Visits.{RanOrDeclined, RanRows, ValidColumn};
+ghost use Rattle.rowexec.specs.Visits.{RunsValid, RunsDirect};
 
 use crate::visitor::{ExecuteFilteredRows, ExecuteValidRows, Visited};
 use bitlane::BitBuffer;
@@ -28,11 +25,11 @@ pub(super) fn execute_valid<F: RowFn>(
     ctx: ExecutionCtx,
 ) -> Visited<ArrayRef>
     requires types { logical_types types.now ≡ types_of columns.now }
-    requires arity { length columns.now ≡ F.arity }
-    requires planned { Planned (F.accepts options.now (types_of columns.now)) (F.fits options.now (types_of columns.now)) (F.output options.now (types_of columns.now)) (types_of columns.now) }
+    requires arity { length columns.now ≡ (F.law options.now (types_of columns.now)).arity }
+    requires planned { Planned (F.law options.now (types_of columns.now)) (types_of columns.now) }
     requires rows { EachHasRows (length valid.now) columns.now }
     requires full { (i : ℕ) → i < length valid.now → bit valid.now i ≡ is_some (full_cells columns.now i) }
-    ensures { RanRows (trues valid.now) (ValidColumn F.finish (F.meaning options.now (types_of columns.now)) (F.output options.now (types_of columns.now)).storage columns.now (length valid.now)) (λ e. ReadFails (F.reads options.now (types_of columns.now)) 0 columns.now e ⊎ EvidenceFails (F.deferred options.now (types_of columns.now)) F.finish (joined F.Evidence.join F.Evidence.neutral (F.meaning options.now (types_of columns.now)) (full_cells columns.now) (length valid.now)) e) result.answer result.prepares result.steps }
+    ensures { RunsValid (F.law options.now (types_of columns.now)) columns.now valid.now result.answer result.prepares result.steps }
 {
     let Visited {
         answer,
@@ -61,11 +58,11 @@ fn execute_direct<F: RowFn>(
     ctx: ExecutionCtx,
 ) -> Visited<Option<ArrayRef>>
     requires types { logical_types types.now ≡ types_of columns.now }
-    requires arity { length columns.now ≡ F.arity }
-    requires planned { Planned (F.accepts options.now (types_of columns.now)) (F.fits options.now (types_of columns.now)) (F.output options.now (types_of columns.now)) (types_of columns.now) }
+    requires arity { length columns.now ≡ (F.law options.now (types_of columns.now)).arity }
+    requires planned { Planned (F.law options.now (types_of columns.now)) (types_of columns.now) }
     requires rows { EachHasRows (length valid.now) columns.now }
     requires full { (i : ℕ) → i < length valid.now → bit valid.now i ≡ is_some (full_cells columns.now i) }
-    ensures { RanOrDeclined (trues valid.now) (ValidColumn F.finish (F.meaning options.now (types_of columns.now)) (F.output options.now (types_of columns.now)).storage columns.now (length valid.now)) (λ e. DecodeFails (F.reads options.now (types_of columns.now)) 0 columns.now e ⊎ EvidenceFails (F.deferred options.now (types_of columns.now)) F.finish (joined F.Evidence.join F.Evidence.neutral (F.meaning options.now (types_of columns.now)) (full_cells columns.now) (length valid.now)) e) result.answer result.prepares result.steps }
+    ensures { RunsDirect (F.law options.now (types_of columns.now)) columns.now valid.now result.answer result.prepares result.steps }
 {
     let visitor = ExecuteValidRows::<F> {
         options,
@@ -91,11 +88,11 @@ fn execute_filtered<F: RowFn>(
     ctx: ExecutionCtx,
 ) -> Visited<ArrayRef>
     requires types { logical_types types.now ≡ types_of columns.now }
-    requires arity { length columns.now ≡ F.arity }
-    requires planned { Planned (F.accepts options.now (types_of columns.now)) (F.fits options.now (types_of columns.now)) (F.output options.now (types_of columns.now)) (types_of columns.now) }
+    requires arity { length columns.now ≡ (F.law options.now (types_of columns.now)).arity }
+    requires planned { Planned (F.law options.now (types_of columns.now)) (types_of columns.now) }
     requires rows { EachHasRows (length valid.now) columns.now }
     requires full { (i : ℕ) → i < length valid.now → bit valid.now i ≡ is_some (full_cells columns.now i) }
-    ensures { RanRows (trues valid.now) (ValidColumn F.finish (F.meaning options.now (types_of columns.now)) (F.output options.now (types_of columns.now)).storage columns.now (length valid.now)) (λ e. ReadFails (F.reads options.now (types_of columns.now)) 0 columns.now e ⊎ EvidenceFails (F.deferred options.now (types_of columns.now)) F.finish (joined F.Evidence.join F.Evidence.neutral (F.meaning options.now (types_of columns.now)) (full_cells columns.now) (length valid.now)) e) result.answer result.prepares result.steps }
+    ensures { RunsValid (F.law options.now (types_of columns.now)) columns.now valid.now result.answer result.prepares result.steps }
 {
     let filtered = match filter_columns(columns, valid, ctx) {
         Ok(filtered) => filtered,

@@ -1,7 +1,6 @@
 // The visitor of the first run under `DenseWithRetry`: all rows, values under nulls included. Rejected evidence is no fault yet,
 // since it may come from a row that has a null.
 ghost use Rattle.std.specs.Prelude.{◌≡◌};
-ghost use Rattle.rowtypes.specs.Rows.{ReadsKnown};
 
 use super::execute::{ExecuteRows, known_values};
 use crate::visitor::Visited;
@@ -27,8 +26,8 @@ impl<'a, F: RowSpec> RowVisitor<F> for ExecuteDenseWithRetry<'a, F> {
     ghost use Rattle.std.specs.Prelude.{◌≡◌, MatchResult, option_map};
     ghost use Rattle.coltypes.specs.LogicalTypeOf.{logical_type};
     ghost use Rattle.coltypes.specs.declared.fault.Fault.TheVariants.{Memory};
-    ghost use Rattle.rowtypes.specs.Rows.{DecodeFails, logical_types};
-    ghost use Rattle.rowexec.specs.Visits.{Attempted, IsReadyAttempt, RanRows};
+    ghost use Rattle.rowtypes.specs.Rows.{logical_types};
+    ghost use Rattle.rowexec.specs.Visits.{IsReadyAttempt, RunsAttempt};
 
     type VisitResult = Visited<DenseAttempt>;
 
@@ -38,13 +37,11 @@ impl<'a, F: RowSpec> RowVisitor<F> for ExecuteDenseWithRetry<'a, F> {
 
     ghost label = { λ s. option_map logical_type s.label };
 
-    ghost ready = { λ s. IsReadyAttempt (F.policy s.options.now (logical_types s.types.now)) (F.fits s.options.now (logical_types s.types.now)) (logical_types s.types.now) s.columns.now s.row_count };
+    ghost ready = { λ s. IsReadyAttempt (F.law s.options.now (logical_types s.types.now))
+        (logical_types s.types.now) s.columns.now s.row_count };
 
     ghost gives = { λ s r. MatchResult r
-        (λ v. RanRows s.row_count
-        (Attempted (F.deferred s.options.now (logical_types s.types.now)) F.finish F.Evidence.join F.Evidence.neutral (F.meaning s.options.now (logical_types s.types.now)) (F.shown s.options.now (logical_types s.types.now)) (F.output s.options.now (logical_types s.types.now)).storage s.columns.now s.row_count)
-        (DecodeFails (F.reads s.options.now (logical_types s.types.now)) 0 s.columns.now)
-        v.answer v.prepares v.steps)
+        (λ v. RunsAttempt (F.law s.options.now (logical_types s.types.now)) s.columns.now s.row_count v.answer v.prepares v.steps)
         (λ e. e ≡ Memory) };
 
     fn with_output_dtype(self, dtype: DType) -> ExecuteDenseWithRetry<'a, F> {

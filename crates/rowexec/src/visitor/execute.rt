@@ -27,10 +27,8 @@ impl<'a, F: RowSpec> RowVisitor<F> for ExecuteRows<'a, F> {
     ghost use Rattle.std.specs.Prelude.{◌≡◌, MatchResult, option_map, ◌⊎◌};
     ghost use Rattle.coltypes.specs.LogicalTypeOf.{logical_type};
     ghost use Rattle.coltypes.specs.declared.fault.Fault.TheVariants.{Memory};
-    ghost use Rattle.rowtypes.specs.Rows.{DecodeFails, logical_types};
-    ghost use Rattle.rowexec.specs.Evidence.{EvidenceFails, joined};
-    ghost use Rattle.rowexec.specs.Rows.{full_cells};
-    ghost use Rattle.rowexec.specs.Visits.{DenseColumn, IsReady, RanRows};
+    ghost use Rattle.rowtypes.specs.Rows.{logical_types};
+    ghost use Rattle.rowexec.specs.Visits.{IsReady, RunsDense};
 
     type VisitResult = Visited<ArrayRef>;
 
@@ -40,13 +38,10 @@ impl<'a, F: RowSpec> RowVisitor<F> for ExecuteRows<'a, F> {
 
     ghost label = { λ s. option_map logical_type s.label };
 
-    ghost ready = { λ s. IsReady (F.policy s.options.now (logical_types s.types.now)) (F.fits s.options.now (logical_types s.types.now)) (logical_types s.types.now) s.columns.now s.row_count };
+    ghost ready = { λ s. IsReady (F.law s.options.now (logical_types s.types.now)) (logical_types s.types.now) s.columns.now s.row_count };
 
     ghost gives = { λ s r. MatchResult r
-        (λ v. RanRows s.row_count
-        (DenseColumn F.finish (F.meaning s.options.now (logical_types s.types.now)) (F.shown s.options.now (logical_types s.types.now)) (F.output s.options.now (logical_types s.types.now)).storage s.columns.now s.row_count)
-        (λ e. DecodeFails (F.reads s.options.now (logical_types s.types.now)) 0 s.columns.now e ⊎ EvidenceFails (F.deferred s.options.now (logical_types s.types.now)) F.finish (joined F.Evidence.join F.Evidence.neutral (F.meaning s.options.now (logical_types s.types.now)) (full_cells s.columns.now) s.row_count) e)
-        v.answer v.prepares v.steps)
+        (λ v. RunsDense (F.law s.options.now (logical_types s.types.now)) s.columns.now s.row_count s.row_count v.answer v.prepares v.steps)
         (λ e. e ≡ Memory) };
 
     fn with_output_dtype(self, dtype: DType) -> ExecuteRows<'a, F> {
@@ -153,9 +148,9 @@ impl<'a, F: RowSpec> RowVisitor<F> for ExecuteRows<'a, F> {
 
 /// The arguments that are one value, each of which is read.
 pub(super) fn known_values<Args: ElementTuple>(decoded: &Args::Columns) -> Args::ConstElems
-    requires { ReadsKnown Args.reads 0 (Args.known_of decoded.now) }
+    requires { ReadsKnown Args.elements.reads 0 (Args.known_of decoded.now) }
     ensures known { Args.known result ≡ Args.known_of decoded.now }
-    ensures read { ReadsKnown Args.reads 0 (Args.known result) }
+    ensures read { ReadsKnown Args.elements.reads 0 (Args.known result) }
 {
     Args::const_values(decoded)
 }

@@ -1,7 +1,6 @@
 // The visitor of the rows without a null where an element can't be decoded with its nulls: the columns were filtered to them, and
 // each answer is written at the row that it came from.
 ghost use Rattle.std.specs.Prelude.{◌≡◌};
-ghost use Rattle.rowtypes.specs.Rows.{ReadsKnown};
 
 use super::execute::known_values;
 use crate::visitor::Visited;
@@ -28,13 +27,10 @@ pub(crate) struct ExecuteFilteredRows<'a, F: RowSpec> {
 
 impl<'a, F: RowSpec> RowVisitor<F> for ExecuteFilteredRows<'a, F> {
     ghost use Rattle.std.specs.Prelude.{◌≡◌, MatchResult, option_map, ◌⊎◌};
-    ghost use Rattle.coltypes.specs.Keep.{trues};
     ghost use Rattle.coltypes.specs.LogicalTypeOf.{logical_type};
     ghost use Rattle.coltypes.specs.declared.fault.Fault.TheVariants.{Memory};
-    ghost use Rattle.rowtypes.specs.Rows.{DecodeFails, logical_types};
-    ghost use Rattle.rowexec.specs.Evidence.{EvidenceFails, joined};
-    ghost use Rattle.rowexec.specs.Rows.{full_cells};
-    ghost use Rattle.rowexec.specs.Visits.{FilteredColumn, IsReadyFiltered, RanRows};
+    ghost use Rattle.rowtypes.specs.Rows.{logical_types};
+    ghost use Rattle.rowexec.specs.Visits.{IsReadyFiltered, RunsFiltered};
 
     type VisitResult = Visited<ArrayRef>;
 
@@ -44,13 +40,11 @@ impl<'a, F: RowSpec> RowVisitor<F> for ExecuteFilteredRows<'a, F> {
 
     ghost label = { λ s. option_map logical_type s.label };
 
-    ghost ready = { λ s. IsReadyFiltered (F.fits s.options.now (logical_types s.types.now)) (logical_types s.types.now) s.columns.now s.valid.now };
+    ghost ready = { λ s. IsReadyFiltered (F.law s.options.now (logical_types s.types.now))
+        (logical_types s.types.now) s.columns.now s.valid.now };
 
     ghost gives = { λ s r. MatchResult r
-        (λ v. RanRows (trues s.valid.now)
-        (FilteredColumn F.finish (F.meaning s.options.now (logical_types s.types.now)) (F.output s.options.now (logical_types s.types.now)).storage s.columns.now s.valid.now)
-        (λ e. DecodeFails (F.reads s.options.now (logical_types s.types.now)) 0 s.columns.now e ⊎ EvidenceFails (F.deferred s.options.now (logical_types s.types.now)) F.finish (joined F.Evidence.join F.Evidence.neutral (F.meaning s.options.now (logical_types s.types.now)) (full_cells s.columns.now) (trues s.valid.now)) e)
-        v.answer v.prepares v.steps)
+        (λ v. RunsFiltered (F.law s.options.now (logical_types s.types.now)) s.columns.now s.valid.now v.answer v.prepares v.steps)
         (λ e. e ≡ Memory) };
 
     fn with_output_dtype(self, dtype: DType) -> ExecuteFilteredRows<'a, F> {

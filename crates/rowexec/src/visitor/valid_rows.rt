@@ -1,7 +1,6 @@
 // The visitor of the rows without a null over the columns as they are, which spares their copies. It declines, before it calls
 // anything, where some element can't be decoded with its nulls.
 ghost use Rattle.std.specs.Prelude.{◌≡◌};
-ghost use Rattle.rowtypes.specs.Rows.{ReadsKnown};
 
 use super::execute::known_values;
 use crate::visitor::Visited;
@@ -26,14 +25,11 @@ pub(crate) struct ExecuteValidRows<'a, F: RowSpec> {
 }
 
 impl<'a, F: RowSpec> RowVisitor<F> for ExecuteValidRows<'a, F> {
-    ghost use Rattle.std.specs.Prelude.{◌≡◌, length, MatchResult, option_map, ◌⊎◌};
-    ghost use Rattle.coltypes.specs.Keep.{trues};
+    ghost use Rattle.std.specs.Prelude.{◌≡◌, MatchResult, option_map, ◌⊎◌};
     ghost use Rattle.coltypes.specs.LogicalTypeOf.{logical_type};
     ghost use Rattle.coltypes.specs.declared.fault.Fault.TheVariants.{Memory};
-    ghost use Rattle.rowtypes.specs.Rows.{DecodeFails, logical_types};
-    ghost use Rattle.rowexec.specs.Evidence.{EvidenceFails, joined};
-    ghost use Rattle.rowexec.specs.Rows.{full_cells};
-    ghost use Rattle.rowexec.specs.Visits.{IsReadyAt, RanOrDeclined, ValidColumn};
+    ghost use Rattle.rowtypes.specs.Rows.{logical_types};
+    ghost use Rattle.rowexec.specs.Visits.{IsReadyAt, RunsDirect};
 
     type VisitResult = Visited<Option<ArrayRef>>;
 
@@ -43,13 +39,11 @@ impl<'a, F: RowSpec> RowVisitor<F> for ExecuteValidRows<'a, F> {
 
     ghost label = { λ s. option_map logical_type s.label };
 
-    ghost ready = { λ s. IsReadyAt (F.fits s.options.now (logical_types s.types.now)) (logical_types s.types.now) s.columns.now s.valid.now };
+    ghost ready = { λ s. IsReadyAt (F.law s.options.now (logical_types s.types.now))
+        (logical_types s.types.now) s.columns.now s.valid.now };
 
     ghost gives = { λ s r. MatchResult r
-        (λ v. RanOrDeclined (trues s.valid.now)
-        (ValidColumn F.finish (F.meaning s.options.now (logical_types s.types.now)) (F.output s.options.now (logical_types s.types.now)).storage s.columns.now (length s.valid.now))
-        (λ e. DecodeFails (F.reads s.options.now (logical_types s.types.now)) 0 s.columns.now e ⊎ EvidenceFails (F.deferred s.options.now (logical_types s.types.now)) F.finish (joined F.Evidence.join F.Evidence.neutral (F.meaning s.options.now (logical_types s.types.now)) (full_cells s.columns.now) (length s.valid.now)) e)
-        v.answer v.prepares v.steps)
+        (λ v. RunsDirect (F.law s.options.now (logical_types s.types.now)) s.columns.now s.valid.now v.answer v.prepares v.steps)
         (λ e. e ≡ Memory) };
 
     fn with_output_dtype(self, dtype: DType) -> ExecuteValidRows<'a, F> {

@@ -11,9 +11,11 @@ use colbase::{DType, ExtDType, Fault, Res};
 // The label that a declared type is: none where it is the storage type, and else an extension over exactly it.
 pub(super) fn own_label(storage: &DType, declared: &Option<DType>) -> Res<Option<ExtDType>>
     ensures over { IfOk result (λ l. same_type (label_storage l (logical_type storage.now)) (logical_type storage.now) ≡ true) }
-    ensures shown { IfOk result (λ l. shown_as l (logical_type storage.now) ≡ output_type (logical_type storage.now) (option_map logical_type declared.now)) }
+    ensures shown { IfOk result (λ l. shown_as l (logical_type storage.now) ≡ output_type (logical_type storage.now)
+        (option_map logical_type declared.now)) }
     ensures fits { IfOk result (λ l. LabelFits (logical_type storage.now) (option_map logical_type declared.now)) }
-    ensures errors { IfErr result (λ e. (e ≡ Fault.OutputType) × (LabelFits (logical_type storage.now) (option_map logical_type declared.now) → ⊥)) }
+    ensures errors { IfErr result (λ e. (e ≡ Fault.OutputType) ×
+        (LabelFits (logical_type storage.now) (option_map logical_type declared.now) → ⊥)) }
 {
     let Some(declared) = declared else {
         return Ok(None);

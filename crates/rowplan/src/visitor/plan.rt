@@ -39,7 +39,7 @@ impl<'a, F: RowSpec> BatchPlanner<'a, F> {
 impl<'a, F: RowSpec> RowVisitor<F> for BatchPlanner<'a, F> {
     ghost use Rattle.std.specs.Prelude.{⊤, option_map};
     ghost use Rattle.coltypes.specs.LogicalTypeOf.{logical_type};
-    ghost use Rattle.rowtypes.specs.Rows.{first_refused, logical_types};
+    ghost use Rattle.rowtypes.specs.Rows.{logical_types};
     ghost use Rattle.rowplan.specs.Plans.{PlanAnswer};
 
     type VisitResult = BatchPlan;
@@ -52,7 +52,7 @@ impl<'a, F: RowSpec> RowVisitor<F> for BatchPlanner<'a, F> {
 
     ghost ready = { λ s. ⊤ };
 
-    ghost gives = { λ s r. PlanAnswer r (first_refused (F.fits s.options.now (logical_types s.types.now)) 0 (logical_types s.types.now)) (F.output s.options.now (logical_types s.types.now)).storage (F.output s.options.now (logical_types s.types.now)).label (F.policy s.options.now (logical_types s.types.now)) };
+    ghost gives = { λ s r. PlanAnswer (F.law s.options.now (logical_types s.types.now)) (logical_types s.types.now) r };
 
     fn with_output_dtype(self, dtype: DType) -> BatchPlanner<'a, F> {
         BatchPlanner {

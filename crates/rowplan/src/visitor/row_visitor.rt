@@ -1,8 +1,6 @@
 // The visits that a row function may select. A visitor defines the two prepared ones; each other is one of these with nothing
 // prepared or with truth values as the output, unless a visitor has a loop of its own for it.
 ghost use Rattle.std.specs.Prelude.{◌≡◌, false, true, Some, Option, List, Result};
-ghost use Rattle.std.specs.Prelude.{Ok};
-ghost use Rattle.std.specs.Borrow.{Bor};
 
 use crate::row_spec::RowSpec;
 use colbase::{DType, Res, RowError};
@@ -15,8 +13,8 @@ use std::alloc::AllocError;
 /// A visit without one is its prepared form with nothing prepared.
 ///
 /// A visitor knows the options and the types of its call. Each visit asks that the elements, the output and the policy
-/// are those of the function's meanings, and that the callback agrees with the meaning of a row wherever the elements read
-/// its cells. A visit tests the argument types before the output, and the storage type before the label.
+/// are those of the function's law, and that the callback computes the meaning of a row wherever the elements read its
+/// cells. A visit tests the argument types before the output, and the storage type before the label.
 pub trait RowVisitor<F: RowSpec>: Sized + Drop {
     ghost use Rattle.coltypes.specs.LogicalType.{LogicalType};
     ghost use Rattle.std.specs.Prelude.{Bool};
@@ -25,12 +23,8 @@ pub trait RowVisitor<F: RowSpec>: Sized + Drop {
     ghost use Rattle.coltypes.specs.declared.dtype.Nullability.TheVariants.{NonNullable as not_nullable};
     ghost use Rattle.coltypes.specs.LogicalTypeOf.{logical_type};
     ghost use Rattle.coltypes.specs.declared.fault.Fault.{Fault};
-    ghost use Rattle.std.specs.Prelude.{⊤};
-    ghost use Rattle.coltypes.specs.declared.fault.RowError.{RowError};
-    ghost use Rattle.rowtypes.specs.Rows.{AgreesWith, ReadsFrom, ReadsKnown};
-    ghost use Rattle.rowplan.specs.Outcomes.{done, judged};
     ghost use Rattle.rowplan.specs.Policies.{deferred_policy, owned_policy};
-    ghost use Rattle.rowplan.specs.Visits.{SelectsElements, SelectsOutput};
+    ghost use Rattle.rowplan.specs.Visits.{Checks, ChecksPrepared, Computes, ComputesPrepared, Judges, Prepares, Selects, Stores};
 
     type VisitResult: Drop;
 
@@ -65,14 +59,14 @@ pub trait RowVisitor<F: RowSpec>: Sized + Drop {
         A: Fn(&P, Args::Elems) -> Out,
     >(self, prepare: R, apply: A) -> Res<Self::VisitResult>
         requires ready { ready self }
-        requires elements { SelectsElements Args.ARITY F.arity Args.accepts (F.fits (options self) (types self)) Args.reads (F.reads (options self) (types self)) Args.shown (F.shown (options self) (types self)) (types self) }
-        requires output { SelectsOutput Out.element_type (Out.states Out.placeholder) (F.output (options self) (types self)) (label self) (F.placeholder (options self) (types self)) (F.room (options self) (types self)) }
-        requires policy { F.policy (options self) (types self) ≡ owned_policy Args.DENSE_SAFE Args.DECODE_INFALLIBLE }
-        requires undeferred { F.deferred (options self) (types self) ≡ false }
-        requires prepares { (k : Args.ConstElems) → ReadsKnown Args.reads 0 (Args.known k) → R.pre prepare k }
+        requires arguments { Selects (F.law (options self) (types self)) Args.ARITY Args.elements (types self) }
+        requires output { Stores (F.law (options self) (types self)) Out.element_type (Out.states Out.placeholder) (label self) }
+        requires policy { (F.law (options self) (types self)).policy ≡ owned_policy Args.DENSE_SAFE Args.DECODE_INFALLIBLE }
+        requires undeferred { (F.law (options self) (types self)).deferred ≡ false }
+        requires prepares { Prepares Args.elements Args.known (R.pre prepare) }
         // The callback is lent the value that was prepared.
-        requires callable { (k : Args.ConstElems) (p : P) (q : Bor P) (e : Args.Elems) → ReadsKnown Args.reads 0 (Args.known k) → R.post prepare k (Ok p) → q.now ≡ p → ReadsFrom Args.reads 0 (Args.cells e) → AgreesWith (Args.known k) (Args.cells e) → A.pre apply q e }
-        requires agrees { (k : Args.ConstElems) (p : P) (q : Bor P) (e : Args.Elems) (r : Out) → ReadsKnown Args.reads 0 (Args.known k) → R.post prepare k (Ok p) → q.now ≡ p → ReadsFrom Args.reads 0 (Args.cells e) → AgreesWith (Args.known k) (Args.cells e) → A.post apply q e r → F.meaning (options self) (types self) (Args.cells e) ≡ done (Out.states r) F.Evidence.neutral }
+        requires computes { ComputesPrepared (F.law (options self) (types self)) Args.elements Args.known Args.cells Out.states
+            (R.post prepare) (A.pre apply) (A.post apply) }
         ensures { gives self result };
 
     /// Runs a callback that gives a value for each row.
@@ -81,12 +75,11 @@ pub trait RowVisitor<F: RowSpec>: Sized + Drop {
         apply: A,
     ) -> Res<Self::VisitResult>
         requires ready { ready self }
-        requires elements { SelectsElements Args.ARITY F.arity Args.accepts (F.fits (options self) (types self)) Args.reads (F.reads (options self) (types self)) Args.shown (F.shown (options self) (types self)) (types self) }
-        requires output { SelectsOutput Out.element_type (Out.states Out.placeholder) (F.output (options self) (types self)) (label self) (F.placeholder (options self) (types self)) (F.room (options self) (types self)) }
-        requires policy { F.policy (options self) (types self) ≡ owned_policy Args.DENSE_SAFE Args.DECODE_INFALLIBLE }
-        requires undeferred { F.deferred (options self) (types self) ≡ false }
-        requires callable { (e : Args.Elems) → ReadsFrom Args.reads 0 (Args.cells e) → A.pre apply e }
-        requires agrees { (e : Args.Elems) (r : Out) → ReadsFrom Args.reads 0 (Args.cells e) → A.post apply e r → F.meaning (options self) (types self) (Args.cells e) ≡ done (Out.states r) F.Evidence.neutral }
+        requires arguments { Selects (F.law (options self) (types self)) Args.ARITY Args.elements (types self) }
+        requires output { Stores (F.law (options self) (types self)) Out.element_type (Out.states Out.placeholder) (label self) }
+        requires policy { (F.law (options self) (types self)).policy ≡ owned_policy Args.DENSE_SAFE Args.DECODE_INFALLIBLE }
+        requires undeferred { (F.law (options self) (types self)).deferred ≡ false }
+        requires computes { Computes (F.law (options self) (types self)) Args.elements Args.cells Out.states (A.pre apply) (A.post apply) }
         ensures { gives self result }
     {
         self.visit_prepared::<Args, Out, (), _, _>(
@@ -105,12 +98,11 @@ pub trait RowVisitor<F: RowSpec>: Sized + Drop {
         apply: A,
     ) -> Res<Self::VisitResult>
         requires ready { ready self }
-        requires elements { SelectsElements Args.ARITY F.arity Args.accepts (F.fits (options self) (types self)) Args.reads (F.reads (options self) (types self)) Args.shown (F.shown (options self) (types self)) (types self) }
-        requires output { SelectsOutput (bool_type not_nullable) (truth false) (F.output (options self) (types self)) (label self) (F.placeholder (options self) (types self)) (F.room (options self) (types self)) }
-        requires policy { F.policy (options self) (types self) ≡ owned_policy Args.DENSE_SAFE Args.DECODE_INFALLIBLE }
-        requires undeferred { F.deferred (options self) (types self) ≡ false }
-        requires callable { (e : Args.Elems) → ReadsFrom Args.reads 0 (Args.cells e) → A.pre apply e }
-        requires agrees { (e : Args.Elems) (r : Bool) → ReadsFrom Args.reads 0 (Args.cells e) → A.post apply e r → F.meaning (options self) (types self) (Args.cells e) ≡ done (truth r) F.Evidence.neutral }
+        requires arguments { Selects (F.law (options self) (types self)) Args.ARITY Args.elements (types self) }
+        requires output { Stores (F.law (options self) (types self)) (bool_type not_nullable) (truth false) (label self) }
+        requires policy { (F.law (options self) (types self)).policy ≡ owned_policy Args.DENSE_SAFE Args.DECODE_INFALLIBLE }
+        requires undeferred { (F.law (options self) (types self)).deferred ≡ false }
+        requires computes { Computes (F.law (options self) (types self)) Args.elements Args.cells truth (A.pre apply) (A.post apply) }
         ensures { gives self result }
     {
         let _ = multiversioned;
@@ -128,17 +120,16 @@ pub trait RowVisitor<F: RowSpec>: Sized + Drop {
         E: FnOnce(F::Evidence) -> Result<(), RowError>,
     >(self, prepare: R, apply: A, finish_failure: E) -> Res<Self::VisitResult>
         requires ready { ready self }
-        requires elements { SelectsElements Args.ARITY F.arity Args.accepts (F.fits (options self) (types self)) Args.reads (F.reads (options self) (types self)) Args.shown (F.shown (options self) (types self)) (types self) }
-        requires output { SelectsOutput Out.element_type (Out.states Out.placeholder) (F.output (options self) (types self)) (label self) (F.placeholder (options self) (types self)) (F.room (options self) (types self)) }
-        requires policy { F.policy (options self) (types self) ≡ deferred_policy Args.DENSE_SAFE Args.DECODE_INFALLIBLE }
-        requires deferred { F.deferred (options self) (types self) ≡ true }
+        requires arguments { Selects (F.law (options self) (types self)) Args.ARITY Args.elements (types self) }
+        requires output { Stores (F.law (options self) (types self)) Out.element_type (Out.states Out.placeholder) (label self) }
+        requires policy { (F.law (options self) (types self)).policy ≡ deferred_policy Args.DENSE_SAFE Args.DECODE_INFALLIBLE }
+        requires deferred { (F.law (options self) (types self)).deferred ≡ true }
         requires fallible { F.INFALLIBLE ≡ false }
-        requires prepares { (k : Args.ConstElems) → ReadsKnown Args.reads 0 (Args.known k) → R.pre prepare k }
+        requires prepares { Prepares Args.elements Args.known (R.pre prepare) }
         // The callback is lent the value that was prepared.
-        requires callable { (k : Args.ConstElems) (p : P) (q : Bor P) (e : Args.Elems) → ReadsKnown Args.reads 0 (Args.known k) → R.post prepare k (Ok p) → q.now ≡ p → ReadsFrom Args.reads 0 (Args.cells e) → AgreesWith (Args.known k) (Args.cells e) → A.pre apply q e }
-        requires agrees { (k : Args.ConstElems) (p : P) (q : Bor P) (e : Args.Elems) (r : Out × F.Evidence) → ReadsKnown Args.reads 0 (Args.known k) → R.post prepare k (Ok p) → q.now ≡ p → ReadsFrom Args.reads 0 (Args.cells e) → AgreesWith (Args.known k) (Args.cells e) → A.post apply q e r → F.meaning (options self) (types self) (Args.cells e) ≡ done (Out.states r.0) r.1 }
-        requires judges { (v : F.Evidence) → F.Evidence.in_range v → E.pre finish_failure v }
-        requires finishes { (v : F.Evidence) (r : Result ⊤ RowError) → F.Evidence.in_range v → E.post finish_failure v r → r ≡ judged (F.finish v) }
+        requires checks { ChecksPrepared (F.law (options self) (types self)) Args.elements Args.known Args.cells Out.states
+            (R.post prepare) (A.pre apply) (A.post apply) }
+        requires judges { Judges (F.law (options self) (types self)) F.Evidence.in_range (E.pre finish_failure) (E.post finish_failure) }
         ensures { gives self result };
 
     /// Runs a callback that gives a value and evidence for each row.
@@ -149,15 +140,13 @@ pub trait RowVisitor<F: RowSpec>: Sized + Drop {
         E: FnOnce(F::Evidence) -> Result<(), RowError>,
     >(self, apply: A, finish_failure: E) -> Res<Self::VisitResult>
         requires ready { ready self }
-        requires elements { SelectsElements Args.ARITY F.arity Args.accepts (F.fits (options self) (types self)) Args.reads (F.reads (options self) (types self)) Args.shown (F.shown (options self) (types self)) (types self) }
-        requires output { SelectsOutput Out.element_type (Out.states Out.placeholder) (F.output (options self) (types self)) (label self) (F.placeholder (options self) (types self)) (F.room (options self) (types self)) }
-        requires policy { F.policy (options self) (types self) ≡ deferred_policy Args.DENSE_SAFE Args.DECODE_INFALLIBLE }
-        requires deferred { F.deferred (options self) (types self) ≡ true }
+        requires arguments { Selects (F.law (options self) (types self)) Args.ARITY Args.elements (types self) }
+        requires output { Stores (F.law (options self) (types self)) Out.element_type (Out.states Out.placeholder) (label self) }
+        requires policy { (F.law (options self) (types self)).policy ≡ deferred_policy Args.DENSE_SAFE Args.DECODE_INFALLIBLE }
+        requires deferred { (F.law (options self) (types self)).deferred ≡ true }
         requires fallible { F.INFALLIBLE ≡ false }
-        requires callable { (e : Args.Elems) → ReadsFrom Args.reads 0 (Args.cells e) → A.pre apply e }
-        requires agrees { (e : Args.Elems) (r : Out × F.Evidence) → ReadsFrom Args.reads 0 (Args.cells e) → A.post apply e r → F.meaning (options self) (types self) (Args.cells e) ≡ done (Out.states r.0) r.1 }
-        requires judges { (v : F.Evidence) → F.Evidence.in_range v → E.pre finish_failure v }
-        requires finishes { (v : F.Evidence) (r : Result ⊤ RowError) → F.Evidence.in_range v → E.post finish_failure v r → r ≡ judged (F.finish v) }
+        requires checks { Checks (F.law (options self) (types self)) Args.elements Args.cells Out.states (A.pre apply) (A.post apply) }
+        requires judges { Judges (F.law (options self) (types self)) F.Evidence.in_range (E.pre finish_failure) (E.post finish_failure) }
         ensures { gives self result }
     {
         self.visit_prepared_deferred::<Args, Out, (), _, _, E>(
@@ -180,17 +169,16 @@ pub trait RowVisitor<F: RowSpec>: Sized + Drop {
         E: FnOnce(F::Evidence) -> Result<(), RowError>,
     >(self, multiversioned: bool, prepare: R, apply: A, finish_failure: E) -> Res<Self::VisitResult>
         requires ready { ready self }
-        requires elements { SelectsElements Args.ARITY F.arity Args.accepts (F.fits (options self) (types self)) Args.reads (F.reads (options self) (types self)) Args.shown (F.shown (options self) (types self)) (types self) }
-        requires output { SelectsOutput (bool_type not_nullable) (truth false) (F.output (options self) (types self)) (label self) (F.placeholder (options self) (types self)) (F.room (options self) (types self)) }
-        requires policy { F.policy (options self) (types self) ≡ deferred_policy Args.DENSE_SAFE Args.DECODE_INFALLIBLE }
-        requires deferred { F.deferred (options self) (types self) ≡ true }
+        requires arguments { Selects (F.law (options self) (types self)) Args.ARITY Args.elements (types self) }
+        requires output { Stores (F.law (options self) (types self)) (bool_type not_nullable) (truth false) (label self) }
+        requires policy { (F.law (options self) (types self)).policy ≡ deferred_policy Args.DENSE_SAFE Args.DECODE_INFALLIBLE }
+        requires deferred { (F.law (options self) (types self)).deferred ≡ true }
         requires fallible { F.INFALLIBLE ≡ false }
-        requires prepares { (k : Args.ConstElems) → ReadsKnown Args.reads 0 (Args.known k) → R.pre prepare k }
+        requires prepares { Prepares Args.elements Args.known (R.pre prepare) }
         // The callback is lent the value that was prepared.
-        requires callable { (k : Args.ConstElems) (p : P) (q : Bor P) (e : Args.Elems) → ReadsKnown Args.reads 0 (Args.known k) → R.post prepare k (Ok p) → q.now ≡ p → ReadsFrom Args.reads 0 (Args.cells e) → AgreesWith (Args.known k) (Args.cells e) → A.pre apply q e }
-        requires agrees { (k : Args.ConstElems) (p : P) (q : Bor P) (e : Args.Elems) (r : Bool × F.Evidence) → ReadsKnown Args.reads 0 (Args.known k) → R.post prepare k (Ok p) → q.now ≡ p → ReadsFrom Args.reads 0 (Args.cells e) → AgreesWith (Args.known k) (Args.cells e) → A.post apply q e r → F.meaning (options self) (types self) (Args.cells e) ≡ done (truth r.0) r.1 }
-        requires judges { (v : F.Evidence) → F.Evidence.in_range v → E.pre finish_failure v }
-        requires finishes { (v : F.Evidence) (r : Result ⊤ RowError) → F.Evidence.in_range v → E.post finish_failure v r → r ≡ judged (F.finish v) }
+        requires checks { ChecksPrepared (F.law (options self) (types self)) Args.elements Args.known Args.cells truth (R.post prepare)
+            (A.pre apply) (A.post apply) }
+        requires judges { Judges (F.law (options self) (types self)) F.Evidence.in_range (E.pre finish_failure) (E.post finish_failure) }
         ensures { gives self result }
     {
         let _ = multiversioned;
@@ -204,15 +192,13 @@ pub trait RowVisitor<F: RowSpec>: Sized + Drop {
         E: FnOnce(F::Evidence) -> Result<(), RowError>,
     >(self, multiversioned: bool, apply: A, finish_failure: E) -> Res<Self::VisitResult>
         requires ready { ready self }
-        requires elements { SelectsElements Args.ARITY F.arity Args.accepts (F.fits (options self) (types self)) Args.reads (F.reads (options self) (types self)) Args.shown (F.shown (options self) (types self)) (types self) }
-        requires output { SelectsOutput (bool_type not_nullable) (truth false) (F.output (options self) (types self)) (label self) (F.placeholder (options self) (types self)) (F.room (options self) (types self)) }
-        requires policy { F.policy (options self) (types self) ≡ deferred_policy Args.DENSE_SAFE Args.DECODE_INFALLIBLE }
-        requires deferred { F.deferred (options self) (types self) ≡ true }
+        requires arguments { Selects (F.law (options self) (types self)) Args.ARITY Args.elements (types self) }
+        requires output { Stores (F.law (options self) (types self)) (bool_type not_nullable) (truth false) (label self) }
+        requires policy { (F.law (options self) (types self)).policy ≡ deferred_policy Args.DENSE_SAFE Args.DECODE_INFALLIBLE }
+        requires deferred { (F.law (options self) (types self)).deferred ≡ true }
         requires fallible { F.INFALLIBLE ≡ false }
-        requires callable { (e : Args.Elems) → ReadsFrom Args.reads 0 (Args.cells e) → A.pre apply e }
-        requires agrees { (e : Args.Elems) (r : Bool × F.Evidence) → ReadsFrom Args.reads 0 (Args.cells e) → A.post apply e r → F.meaning (options self) (types self) (Args.cells e) ≡ done (truth r.0) r.1 }
-        requires judges { (v : F.Evidence) → F.Evidence.in_range v → E.pre finish_failure v }
-        requires finishes { (v : F.Evidence) (r : Result ⊤ RowError) → F.Evidence.in_range v → E.post finish_failure v r → r ≡ judged (F.finish v) }
+        requires checks { Checks (F.law (options self) (types self)) Args.elements Args.cells truth (A.pre apply) (A.post apply) }
+        requires judges { Judges (F.law (options self) (types self)) F.Evidence.in_range (E.pre finish_failure) (E.post finish_failure) }
         ensures { gives self result }
     {
         self.visit_prepared_deferred_bool::<Args, (), _, _, E>(

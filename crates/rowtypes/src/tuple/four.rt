@@ -36,13 +36,12 @@ impl<A: InputElement, B: InputElement, C: InputElement, D: InputElement> Element
 
     ghost DECODE_INFALLIBLE = { A.DECODE_INFALLIBLE && B.DECODE_INFALLIBLE && C.DECODE_INFALLIBLE && D.DECODE_INFALLIBLE };
 
-    ghost accepts = { pick_four A.accepts B.accepts C.accepts D.accepts };
-
-    ghost reads = { reads_four A.reads B.reads C.reads D.reads };
-
-    ghost shown = { pick_four A.shown B.shown C.shown D.shown };
-
-    ghost null_tolerant = { pick_four A.null_tolerant B.null_tolerant C.null_tolerant D.null_tolerant };
+    ghost elements = { record {
+      accepts = pick_four A.accepts B.accepts C.accepts D.accepts;
+      reads = reads_four A.reads B.reads C.reads D.reads;
+      shown = pick_four A.shown B.shown C.shown D.shown;
+      tolerant = pick_four A.null_tolerant B.null_tolerant C.null_tolerant D.null_tolerant;
+    } };
 
     ghost cells = { λ e. A.cell e.0 ∷ B.cell e.1 ∷ C.cell e.2 ∷ D.cell e.3 ∷ [] };
 

@@ -29,13 +29,12 @@ impl<A: InputElement, B: InputElement, C: InputElement> ElementTuple for (A, B, 
 
     ghost DECODE_INFALLIBLE = { A.DECODE_INFALLIBLE && B.DECODE_INFALLIBLE && C.DECODE_INFALLIBLE };
 
-    ghost accepts = { pick_three A.accepts B.accepts C.accepts };
-
-    ghost reads = { reads_three A.reads B.reads C.reads };
-
-    ghost shown = { pick_three A.shown B.shown C.shown };
-
-    ghost null_tolerant = { pick_three A.null_tolerant B.null_tolerant C.null_tolerant };
+    ghost elements = { record {
+      accepts = pick_three A.accepts B.accepts C.accepts;
+      reads = reads_three A.reads B.reads C.reads;
+      shown = pick_three A.shown B.shown C.shown;
+      tolerant = pick_three A.null_tolerant B.null_tolerant C.null_tolerant;
+    } };
 
     ghost cells = { λ e. A.cell e.0 ∷ B.cell e.1 ∷ C.cell e.2 ∷ [] };
 

@@ -25,13 +25,12 @@ impl ElementTuple for () {
 
     ghost DECODE_INFALLIBLE = { true };
 
-    ghost accepts = { λ k t. true };
-
-    ghost reads = { λ k c. ⊤ };
-
-    ghost shown = { λ k. shown_by_rows };
-
-    ghost null_tolerant = { λ k a. true };
+    ghost elements = { record {
+      accepts = λ k t. true;
+      reads = λ k c. ⊤;
+      shown = λ k. shown_by_rows;
+      tolerant = λ k a. true;
+    } };
 
     ghost cells = { λ e. [] };
 

@@ -27,13 +27,12 @@ impl<A: InputElement> ElementTuple for (A,) {
 
     ghost DECODE_INFALLIBLE = { A.DECODE_INFALLIBLE };
 
-    ghost accepts = { pick_one A.accepts };
-
-    ghost reads = { reads_one A.reads };
-
-    ghost shown = { pick_one A.shown };
-
-    ghost null_tolerant = { pick_one A.null_tolerant };
+    ghost elements = { record {
+      accepts = pick_one A.accepts;
+      reads = reads_one A.reads;
+      shown = pick_one A.shown;
+      tolerant = pick_one A.null_tolerant;
+    } };
 
     ghost cells = { λ e. A.cell e.0 ∷ [] };
 
@@ -113,13 +112,12 @@ impl<A: InputElement, B: InputElement> ElementTuple for (A, B) {
 
     ghost DECODE_INFALLIBLE = { A.DECODE_INFALLIBLE && B.DECODE_INFALLIBLE };
 
-    ghost accepts = { pick_two A.accepts B.accepts };
-
-    ghost reads = { reads_two A.reads B.reads };
-
-    ghost shown = { pick_two A.shown B.shown };
-
-    ghost null_tolerant = { pick_two A.null_tolerant B.null_tolerant };
+    ghost elements = { record {
+      accepts = pick_two A.accepts B.accepts;
+      reads = reads_two A.reads B.reads;
+      shown = pick_two A.shown B.shown;
+      tolerant = pick_two A.null_tolerant B.null_tolerant;
+    } };
 
     ghost cells = { λ e. A.cell e.0 ∷ B.cell e.1 ∷ [] };
 

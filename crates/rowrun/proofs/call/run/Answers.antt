@@ -1,8 +1,9 @@
+use Rattle.std.proofs.Common.{ap}
 use Rattle.rowtext.proofs.Exact.{refused, too_long, exact, complete}
 use Rattle.rowtext.proofs.Statuses.{by_status}
 use Rattle.std.specs.Prelude.{map, string_bytes}
 use Rattle.rowrun.proofs.Answered.{done_written, fault_written, generates, steady_generates, was_called}
-use Rattle.rowrun.proofs.Asked.{of_others, of_run}
+use Rattle.rowrun.proofs.Asked.{gen_not_input, not_input, of_others, of_run}
 use Rattle.rowrun.proofs.call.run.Goals as goal
 
 pub returns-clause-usage : goal.returns-clause-usage
@@ -42,7 +43,15 @@ pub returns-clause-fault : goal.returns-clause-fault
 returns-clause-fault g c = fault_written (map string_bytes c.args.words.now) c.conduct.ensures.ends
 
 pub returns-clause-generates : goal.returns-clause-generates
-returns-clause-generates g c = λ n gen. generates (map string_bytes c.args.words.now) c.conduct.ensures.ends n gen
+returns-clause-generates g c = λ n gen. generates (map string_bytes c.args.words.now) c.conduct.ensures.ends
+    (λ kept. ap g.S.Source.left (kept (gen_not_input (map string_bytes c.args.words.now) n gen))) n gen
 
 pub returns-clause-generated : goal.returns-clause-generated
-returns-clause-generated g c = λ n gen steady. steady_generates n (generates (map string_bytes c.args.words.now) c.conduct.ensures.ends n gen) steady
+returns-clause-generated g c = λ n gen steady. steady_generates n (generates (map string_bytes c.args.words.now) c.conduct.ensures.ends
+    (λ kept. ap g.S.Source.left (kept (gen_not_input (map string_bytes c.args.words.now) n gen))) n gen) steady
+
+pub returns-clause-kept : goal.returns-clause-kept
+returns-clause-kept g c = λ other. c.conduct.ensures.kept (not_input (map string_bytes c.args.words.now) other)
+
+pub returns-clause-memory : goal.returns-clause-memory
+returns-clause-memory g c = λ four. ((by_status c.conduct.ensures.ends).is_memory four).1

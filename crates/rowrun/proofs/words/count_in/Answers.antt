@@ -1,6 +1,6 @@
 use Rattle.std.proofs.Common.{arith, ◌≡◌, ◌∙◌, sym}
 use Rattle.std.specs.Prelude.{decimal}
-use Rattle.rowsample.specs.Functions.{true_is_false}
+use Rattle.rowplan.specs.Constructors.{true_is_false}
 use Rattle.std.proofs.lemmas.Slice.Eq.{bytes_eq-Decides}
 use Rattle.rowrun.proofs.Asked.{Counts, count_parsed, not_parsed, other_parsed}
 use Rattle.rowrun.proofs.words.count_in.Goals.{else-count-le-MOST_ROWS-via-then-count-le-MOST_ROWS+else-eq, else-count-le-MOST_ROWS-via-else-count-le-MOST_ROWS}

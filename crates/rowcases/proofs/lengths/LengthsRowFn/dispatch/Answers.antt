@@ -1,12 +1,6 @@
-use Rattle.std.proofs.Common.{◌∙◌, refl, ap, length}
-use Rattle.rowplan.proofs.Types.{as_many}
+use Rattle.std.proofs.Common.{refl}
+use Rattle.rowplan.proofs.Types.{selects}
 use Rattle.rowcases.proofs.lengths.LengthsRowFn.dispatch.Goals as goal
 
-pub visit-requires-clause-elements : goal.visit-requires-clause-elements
-visit-requires-clause-elements g c = record {
-  arity = refl;
-  count = ap length c.requires.types ∙ as_many c.args._types.now ∙ c.requires.arity;
-  fits = λ k t. refl;
-  reads = λ k x. (λ h. h, λ h. h);
-  shown = λ k a i. refl;
-}
+pub visit-requires-clause-arguments : goal.visit-requires-clause-arguments
+visit-requires-clause-arguments g c = selects _ 1 c.args._types.now _ refl c.requires.types c.requires.arity

@@ -1,12 +1,6 @@
-use Rattle.std.proofs.Common.{◌∙◌, refl, ap, length}
-use Rattle.rowplan.proofs.Types.{as_many}
+use Rattle.std.proofs.Common.{refl}
+use Rattle.rowplan.proofs.Types.{selects}
 use Rattle.rowcases.proofs.sum_prepared.SumPreparedRowFn.dispatch.Goals as goal
 
-pub visit_prepared-requires-clause-elements : goal.visit_prepared-requires-clause-elements
-visit_prepared-requires-clause-elements g c = record {
-  arity = refl;
-  count = ap length c.requires.types ∙ as_many c.args._types.now ∙ c.requires.arity;
-  fits = λ k t. refl;
-  reads = λ k x. (λ h. h, λ h. h);
-  shown = λ k a i. refl;
-}
+pub visit_prepared-requires-clause-arguments : goal.visit_prepared-requires-clause-arguments
+visit_prepared-requires-clause-arguments g c = selects _ 2 c.args._types.now _ refl c.requires.types c.requires.arity

@@ -1,70 +1,37 @@
-use Rattle.std.proofs.Common.{◌≡◌, ◌∙◌, ◌<◌, ℕ, Option, Some, ap, sym, subst}
-use Rattle.colbase.specs.Arrays.{dtype, len, row, rows}
-use Rattle.coltypes.specs.LogicalType.{LogicalType, nullability_of, with_nullability}
-use Rattle.coltypes.specs.LogicalTypeOf.{logical_type}
-use Rattle.coltypes.specs.Valid.{valid_at}
-use Rattle.coltypes.specs.declared.dtype.Nullability.TheVariants.{NonNullable}
-use Rattle.rowplan.specs.Outputs.{InOrder, any_nullable, made_nullable}
-use Rattle.rowplan.specs.Plans.{plan_of}
-use Rattle.rowexec.specs.Batch.{StatedAs}
-use Rattle.rowexec.specs.Rows.{StrictRow, full_cells, types_of}
-use Rattle.rowloops.proofs.Results.{ok_then}
-use Rattle.rowexec.proofs.StrictRows.{output_not_null, relabel_type, relabelled_type, strict_row}
-use Rattle.rowexec.proofs.Tables.{len_of_table, row_of_table}
+use Rattle.std.proofs.Common.{◌≡◌, ◌<◌, ℕ, List, true, false, subst, sym}
+use Rattle.colbase.specs.Arrays.{Array, len}
+use Rattle.rowexec.specs.Counts.{one_row}
+use Rattle.rowexec.specs.Rows.{EachHasRows, types_of}
+use Rattle.rowexec.proofs.Finishing.{labelled_finishes, repeated_finishes}
+use Rattle.rowexec.proofs.OneRow.{some_rows}
 use Rattle.rowexec.proofs.batch.answer.finish_values.Goals as goal
 
-pub relabel_output-requires : goal.relabel_output-requires
-relabel_output-requires g c =
-    let s = logical_type c.args.plan.now.storage in
-    let b = c.is_any_nullable.result in
-    let stored : dtype c.args.values ≡ s = cc (c.requires.values.stored, c.requires.plan.stored) in
-    let typed : dtype c.in_ok-masked.masked ≡ made_nullable b s = c.in_ok-masked.ensures.dtype ∙ ap (made_nullable b) stored in
-    typed ∙ relabel_type b s c.args.plan.now.not_nullable ∙ ap (λ t. with_nullability s (nullability_of t)) (sym typed)
+pub is_one_row-requires : goal.is_one_row-requires
+is_one_row-requires g c =
+    let Of : ℕ → Type 0 = λ k. EachHasRows k c.columns.result.now in
+    let Rows : List Array → Type 0 = λ xs. EachHasRows c.args.args.now.row_count xs in
+    subst Of (sym c.row_count.ensures) (subst Rows (sym c.columns.ensures) c.requires.rows)
 
-pub returns-clause-len : goal.returns-clause-len
-returns-clause-len g c =
-    let masked = c.in_ok-masked.masked in
-    ok_then (λ a. rows a ≡ rows masked) (λ a. len a ≡ c.args.args.now.row_count) c.relabel_output.result
-    (λ a e. len_of_table a (row masked) (len masked) e ∙ c.in_ok-masked.ensures.len ∙ c.requires.values.counted) c.relabel_output.ensures.rows
-
-pub returns-clause-rows : goal.returns-clause-rows
-returns-clause-rows g c =
+pub repeated-requires : goal.repeated-requires
+repeated-requires g c =
     let n = c.args.args.now.row_count in
     let columns = c.args.args.now.columns in
-    let types = types_of columns in
-    let masked = c.in_ok-masked.masked in
-    let values = c.args.values in
-    let full = c.args.full.now in
-    let finish = g.F.RowSpec.finish in
-    let meaning = g.F.RowSpec.meaning c.args.options.now types in
-    let given = c.requires.values in
-    ok_then (λ a. rows a ≡ rows masked) (λ a. (i : ℕ) → i < n → StrictRow finish meaning (full_cells columns i) (row a i)) c.relabel_output.result
-    (λ a e i h.
-    let hm : i < len masked = subst (λ m. i < m) (sym (c.in_ok-masked.ensures.len ∙ given.counted)) h in
-    let hv : i < len values = subst (λ m. i < m) (sym given.counted) h in
-    let here = row_of_table a (row masked) (len masked) e i hm ∙ c.in_ok-masked.ensures.rows i hv in
-    strict_row finish meaning (full_cells columns i) (valid_at full i) (row a i) (row values i) (c.requires.tells i h) here (λ cs k. given.each i cs h k))
-    c.relabel_output.ensures.rows
+    let one : one_row n columns ≡ true = cc (c.row_count.ensures, c.columns.ensures, c.is_one_row.ensures, c.if-is_one_row.true) in
+    subst (λ k. 0 < k) (sym c.in_ok-labelled.ensures.len) (some_rows n columns one)
 
-pub returns-clause-dtype : goal.returns-clause-dtype
-returns-clause-dtype g c =
-    let s = logical_type c.args.plan.now.storage in
-    let b = c.is_any_nullable.result in
+pub returns-then-is_one_row : goal.returns-then-is_one_row
+returns-then-is_one_row g c =
+    let n = c.args.args.now.row_count in
     let columns = c.args.args.now.columns in
-    let types = types_of columns in
-    let output = g.F.RowSpec.output c.args.options.now types in
-    let masked = c.in_ok-masked.masked in
-    let out = (plan_of c.args.plan.now).output in
-    let stored : dtype c.args.values ≡ s = cc (c.requires.values.stored, c.requires.plan.stored) in
-    let typed : dtype masked ≡ made_nullable b s = c.in_ok-masked.ensures.dtype ∙ ap (made_nullable b) stored in
-    let InOrderBy : Option LogicalType → Type 0 = λ o. InOrder o output.label in
-    let in_order : InOrder (Some s) output.label = subst InOrderBy c.requires.plan.stored c.requires.plan.in_order in
-    let not_null : nullability_of out ≡ NonNullable = ap nullability_of c.requires.plan.output ∙ output_not_null s output.label in_order in
-    let told : b ≡ any_nullable types = c.is_any_nullable.ensures ∙ ap any_nullable c.requires.types in
-    ok_then (λ a. dtype a ≡ with_nullability out (nullability_of (dtype masked))) (λ a. StatedAs output types (dtype a)) c.relabel_output.result
-    (λ a e. record {
-      storage = s;
-      stored = c.requires.plan.stored;
-      is = e ∙ ap (λ t. with_nullability out (nullability_of t)) typed ∙ relabelled_type b s out c.args.plan.now.not_nullable not_null ∙ ap (λ x. made_nullable x out) told ∙ ap (made_nullable (any_nullable types)) c.requires.plan.output;
-    })
-    c.relabel_output.ensures.dtype
+    let law = g.F.RowSpec.law c.args.options.now (types_of columns) in
+    let one : one_row n columns ≡ true = cc (c.row_count.ensures, c.columns.ensures, c.is_one_row.ensures, c.if-is_one_row.true) in
+    let given = c.repeated in
+    repeated_finishes law columns n c.in_ok-labelled.labelled given.result one c.in_ok-labelled.ensures.dtype c.in_ok-labelled.ensures.rows given.ensures.dtype (subst (λ k. Rattle.std.specs.Prelude.IfOk given.result (λ a. len a ≡ k)) c.row_count-then-is_one_row.ensures given.ensures.len) given.ensures.rows given.ensures.constant given.ensures.errors
+
+pub returns : goal.returns
+returns g c =
+    let n = c.args.args.now.row_count in
+    let columns = c.args.args.now.columns in
+    let law = g.F.RowSpec.law c.args.options.now (types_of columns) in
+    let one : one_row n columns ≡ false = cc (c.row_count.ensures, c.columns.ensures, c.is_one_row.ensures, c.if-is_one_row.false) in
+    labelled_finishes law columns n c.in_ok-labelled.labelled one c.in_ok-labelled.ensures.dtype c.in_ok-labelled.ensures.len c.in_ok-labelled.ensures.rows

@@ -6,7 +6,7 @@ use Rattle.rowtypes.specs.Rows.{logical_types}
 use Rattle.rowexec.proofs.batch.valid.execute_direct.Goals as goal
 
 pub dispatch-requires-clause-arity : goal.dispatch-requires-clause-arity
-dispatch-requires-clause-arity g c = sym (as_many c.args.types.now) ∙ ap length c.requires.types ∙ as_many_types c.args.columns.now ∙ c.requires.arity
+dispatch-requires-clause-arity g c = sym (as_many c.args.types.now) ∙ ap length c.requires.types ∙ as_many_types c.args.columns.now ∙ c.requires.arity ∙ ap (λ t. (g.F.RowSpec.law c.args.options.now t).arity) (sym c.requires.types)
 
 pub dispatch-requires-clause-ready : goal.dispatch-requires-clause-ready
 dispatch-requires-clause-ready g c =
@@ -14,7 +14,7 @@ dispatch-requires-clause-ready g c =
     let types = logical_types c.args.types.now in
     record {
       types_are = c.requires.types;
-      accepted = accepted_from (g.F.RowSpec.fits c.args.options.now types) 0 columns (cc (c.requires.types, c.requires.planned.fit));
+      accepted = accepted_from (g.F.RowSpec.law c.args.options.now types).arguments.accepts 0 columns (cc (c.requires.types, c.requires.planned.fit));
       rows = c.requires.rows;
       full = c.requires.full;
     }

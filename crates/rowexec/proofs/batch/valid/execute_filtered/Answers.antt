@@ -10,7 +10,7 @@ use Rattle.rowplan.proofs.Types.{as_many}
 use Rattle.rowexec.proofs.batch.valid.execute_filtered.Goals as goal
 
 pub dispatch-requires-clause-arity : goal.dispatch-requires-clause-arity
-dispatch-requires-clause-arity g c = sym (as_many c.args.types.now) ∙ ap length c.requires.types ∙ as_many_types c.args.columns.now ∙ c.requires.arity
+dispatch-requires-clause-arity g c = sym (as_many c.args.types.now) ∙ ap length c.requires.types ∙ as_many_types c.args.columns.now ∙ c.requires.arity ∙ ap (λ t. (g.F.RowSpec.law c.args.options.now t).arity) (sym c.requires.types)
 
 pub dispatch-requires-clause-ready : goal.dispatch-requires-clause-ready
 dispatch-requires-clause-ready g c =
@@ -23,7 +23,7 @@ dispatch-requires-clause-ready g c =
     let same : types ≡ types_of news = c.requires.types ∙ sym (types_kept marks columns news from) in
     record {
       types_are = same;
-      accepted = accepted_from (g.F.RowSpec.fits c.args.options.now types) 0 news (cc (same, c.requires.types, c.requires.planned.fit));
+      accepted = accepted_from (g.F.RowSpec.law c.args.options.now types).arguments.accepts 0 news (cc (same, c.requires.types, c.requires.planned.fit));
       rows = rows_kept marks columns news c.requires.rows from;
       full = full_kept marks columns news c.requires.rows c.requires.full from;
     }
@@ -38,7 +38,7 @@ returns-in-Ok-dispatch g c =
     let From : List Array → Type 0 = λ xs. FilteredFrom marks columns xs in
     let from : FilteredFrom marks columns news = subst From (sym c.as_slice.ensures.value) c.in-Ok.ensures.filtered in
     let visited = c.in-Ok-dispatch.visited in
-    elim (c.in-Ok-dispatch.ensures.gives (ap (g.F.RowSpec.accepts options) c.requires.types ∙ c.requires.planned.accepted)) [
+    elim (c.in-Ok-dispatch.ensures.gives (ap (λ t. (g.F.RowSpec.law options t).accepts) c.requires.types ∙ c.requires.planned.accepted)) [
       | inl e ↦ absurd (cc)
-      | inr ran ↦ ran_kept g.F.RowSpec.finish g.F.Evidence.FailureEvidence.join g.F.Evidence.FailureEvidence.neutral (g.F.RowSpec.meaning options) (g.F.RowSpec.deferred options) (λ ts. (g.F.RowSpec.output options ts).storage) (g.F.RowSpec.reads options) types (types_of columns) marks columns news visited.answer visited.prepares visited.steps c.requires.types c.requires.rows c.requires.full from ran
+      | inr ran ↦ ran_kept (g.F.RowSpec.law options) types (types_of columns) marks columns news visited.answer visited.prepares visited.steps c.requires.types c.requires.rows c.requires.full from ran
     ]

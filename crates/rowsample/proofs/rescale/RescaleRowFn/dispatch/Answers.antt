@@ -1,13 +1,6 @@
-use Rattle.std.proofs.Common.{◌∙◌, refl, ap, length}
-use Rattle.rowplan.proofs.Types.{as_many}
-use Rattle.rowsample.proofs.SameElements.{rescale_accepts, rescale_reads, rescale_shows}
+use Rattle.std.proofs.Common.{refl}
+use Rattle.rowplan.proofs.Types.{selects}
 use Rattle.rowsample.proofs.rescale.RescaleRowFn.dispatch.Goals as goal
 
-pub visit_prepared_deferred-requires-clause-elements : goal.visit_prepared_deferred-requires-clause-elements
-visit_prepared_deferred-requires-clause-elements g c = record {
-  arity = refl;
-  count = ap length c.requires.types ∙ as_many c.args._types.now ∙ c.requires.arity;
-  fits = rescale_accepts;
-  reads = rescale_reads;
-  shown = rescale_shows;
-}
+pub visit_prepared_deferred-requires-clause-arguments : goal.visit_prepared_deferred-requires-clause-arguments
+visit_prepared_deferred-requires-clause-arguments g c = selects _ 2 c.args._types.now _ refl c.requires.types c.requires.arity

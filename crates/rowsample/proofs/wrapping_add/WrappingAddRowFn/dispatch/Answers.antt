@@ -1,13 +1,6 @@
-use Rattle.std.proofs.Common.{◌∙◌, refl, ap, length}
-use Rattle.rowplan.proofs.Types.{as_many}
-use Rattle.rowsample.proofs.SameElements.{accepts_each, reads_each, shows_each}
+use Rattle.std.proofs.Common.{refl}
+use Rattle.rowplan.proofs.Types.{selects}
 use Rattle.rowsample.proofs.wrapping_add.WrappingAddRowFn.dispatch.Goals as goal
 
-pub visit-requires-clause-elements : goal.visit-requires-clause-elements
-visit-requires-clause-elements g c = record {
-  arity = refl;
-  count = ap length c.requires.types ∙ as_many c.args._types.now ∙ c.requires.arity;
-  fits = accepts_each;
-  reads = reads_each;
-  shown = shows_each;
-}
+pub visit-requires-clause-arguments : goal.visit-requires-clause-arguments
+visit-requires-clause-arguments g c = selects _ 2 c.args._types.now _ refl c.requires.types c.requires.arity

@@ -5,6 +5,7 @@ use Rattle.rowexec.specs.Rows.{full_cells}
 use Rattle.rowexec.proofs.Reading.{owned_dense}
 use Rattle.rowexec.proofs.Undeferred.{ran_accepted}
 use Rattle.rowexec.proofs.visitor.dense_with_retry.ExecuteDenseWithRetryRowVisitor.visit_prepared.Goals as goal
+use Rattle.rowexec.proofs.Laws.{accepts_neutral, joins_lawfully}
 
 pub visit_prepared-requires-clause-ready : goal.visit_prepared-requires-clause-ready
 visit_prepared-requires-clause-ready g c =
@@ -13,7 +14,7 @@ visit_prepared-requires-clause-ready g c =
       types_are = c.requires.ready.types_are;
       accepted = c.requires.ready.accepted;
       asked = c.requires.ready.asked;
-      runs = inl (owned_dense (g.F.RowSpec.policy c.args.self.options.now (logical_types c.args.self.types.now)) T.DENSE_SAFE T.DECODE_INFALLIBLE c.requires.ready.runs c.requires.policy);
+      runs = inl (owned_dense (g.F.RowSpec.law c.args.self.options.now (logical_types c.args.self.types.now)).policy T.DENSE_SAFE T.DECODE_INFALLIBLE c.requires.ready.runs c.requires.policy);
     }
 
 pub returns : goal.returns
@@ -23,10 +24,10 @@ returns g c =
     let columns = self.columns.now in
     let n = self.row_count in
     let V = g.F.Evidence.FailureEvidence in
-    let meaning = g.F.RowSpec.meaning self.options.now types in
-    let deferred = g.F.RowSpec.deferred self.options.now types in
+    let law = g.F.RowSpec.law self.options.now types in
+    let lawful = g.met.F.RowSpec.lawful self.options.now types in
     let told = c.in_ok-visited.visited in
     let answer = c.accepted.result in
-    ran_accepted V.in_range deferred g.F.RowSpec.finish V.join V.neutral meaning (g.F.RowSpec.shown self.options.now types) (g.F.RowSpec.output self.options.now types).storage columns n (DecodeFails (g.F.RowSpec.reads self.options.now types) 0 columns) (joined V.join V.neutral meaning (full_cells columns) n) told.answer answer.answer told.prepares told.steps answer.prepares answer.steps
-    V.laws g.met.F.RowSpec.finish_laws.accepts_neutral (λ of. g.met.F.RowSpec.no_evidence self.options.now types of c.requires.undeferred) c.requires.undeferred
+    ran_accepted V.in_range law columns n (DecodeFails law.arguments.reads 0 columns) (joined law.join law.neutral law.meaning (full_cells columns) n) told.answer answer.answer told.prepares told.steps answer.prepares answer.steps
+    (joins_lawfully lawful V.laws) (accepts_neutral lawful) (λ of. lawful.no_evidence of c.requires.undeferred) c.requires.undeferred
     c.accepted.ensures.answer c.accepted.ensures.prepares c.accepted.ensures.steps c.in_ok-visited.ensures

@@ -16,19 +16,19 @@ use Rattle.rowexec.proofs.JoinedColumns.{filtered_rows_column}
 use Rattle.rowexec.proofs.Joining.{joined_rows}
 use Rattle.rowexec.proofs.Judging.{of_err, of_ok, ran_judged, ran_out}
 use Rattle.rowexec.proofs.Known.{agrees_at, reads_known}
-use Rattle.rowexec.proofs.Reading.{full_row_reads, full_selected}
+use Rattle.rowexec.proofs.Reading.{full_row_reads, full_selected, reads_full}
 use Rattle.rowexec.proofs.Valid.{failed_before}
 use Rattle.rowexec.proofs.visitor.filtered_rows.ExecuteFilteredRowsRowVisitor.visit_prepared_deferred.Goals as goal
 use Rattle.rowexec.proofs.visitor.filtered_rows.ExecuteFilteredRowsRowVisitor.visit_prepared_deferred.Goals.{in-Ok-answer, in-Err-answer}
 
 pub decode-requires-clause-arity : goal.decode-requires-clause-arity
-decode-requires-clause-arity g c = sym (as_many_types c.args.self.columns.now) ∙ ap length (sym c.requires.ready.types_are) ∙ c.requires.elements.count ∙ sym c.requires.elements.arity
+decode-requires-clause-arity g c = sym (as_many_types c.args.self.columns.now) ∙ ap length (sym c.requires.ready.types_are) ∙ c.requires.arguments.count ∙ sym c.requires.arguments.arity_is
 
 pub returns-in-Err : goal.returns-in-Err
-returns-in-Err g c = failed_before _ _ _ c.before_the_rows.result.answer c.in-Err.fault c.before_the_rows.result.prepares c.before_the_rows.result.steps c.before_the_rows.ensures.answer (omega (arith, c.before_the_rows.ensures.prepares)) c.before_the_rows.ensures.steps (inl (fails_same g.Args.ElementTuple.reads (g.F.RowSpec.reads c.args.self.options.now (logical_types c.args.self.types.now)) c.requires.elements.reads 0 c.args.self.columns.now c.in-Err.fault c.in-Err.ensures.errors))
+returns-in-Err g c = failed_before _ _ _ c.before_the_rows.result.answer c.in-Err.fault c.before_the_rows.result.prepares c.before_the_rows.result.steps c.before_the_rows.ensures.answer (omega (arith, c.before_the_rows.ensures.prepares)) c.before_the_rows.ensures.steps (inl (fails_same g.Args.ElementTuple.elements.reads (g.F.RowSpec.law c.args.self.options.now (logical_types c.args.self.types.now)).arguments.reads c.requires.arguments.reads 0 c.args.self.columns.now c.in-Err.fault c.in-Err.ensures.errors))
 
 pub known_values-requires : goal.known_values-requires
-known_values-requires g c = subst (λ known. ReadsKnown g.Args.ElementTuple.reads 0 known) (sym c.in-Ok.ensures.known) (reads_known g.Args.ElementTuple.reads 0 c.args.self.columns.now c.in-Ok.ensures.read)
+known_values-requires g c = subst (λ known. ReadsKnown g.Args.ElementTuple.elements.reads 0 known) (sym c.in-Ok.ensures.known) (reads_known g.Args.ElementTuple.elements.reads 0 c.args.self.columns.now c.in-Ok.ensures.read)
 
 pub execute_owned_filtered-answer-requires-clause-lengths : goal.execute_owned_filtered-answer-requires-clause-lengths
 execute_owned_filtered-answer-requires-clause-lengths g c =
@@ -39,16 +39,16 @@ execute_owned_filtered-answer-requires-clause-lengths g c =
 pub execute_owned_filtered-answer-requires-clause-callable : goal.execute_owned_filtered-answer-requires-clause-callable
 execute_owned_filtered-answer-requires-clause-callable g c = λ i e h k.
     let T = g.Args.ElementTuple in
-    let law = g.met.Args.ElementTuple in
+    let tuple = g.met.Args.ElementTuple in
     let marks = c.args.self.valid.now in
     let columns = c.args.self.columns.now in
     let decoded = c.in-Ok.decoded in
     let known = c.known_values.result in
     let below : i < trues marks = omega (arith, trues-count_by marks) in
     let there = has_row (trues marks) (T.lengths decoded) (ap (each_length (trues marks)) c.in-Ok.ensures.lengths ∙ each_decoded (trues marks) columns c.requires.ready.rows) i below in
-    let read : ReadsFrom T.reads 0 (T.cells e) = full_row_reads T.reads T.shown law.shown_constant law.shown_row columns i (T.cells e) (k ∙ c.in-Ok.ensures.same i there) c.in-Ok.ensures.read (c.requires.ready.full i below) in
-    let agree : AgreesWith (T.known known) (T.cells e) = agrees_at (T.known known) (T.known_of decoded) (T.cells e) (T.shows decoded i) c.known_values.ensures.known k (law.known_agrees decoded i) in
-    c.requires.callable known c.in-Ok-prepare.prepared _ e c.known_values.ensures.read c.in-Ok-prepare.ensures refl read agree
+    let read : ReadsFrom T.elements.reads 0 (T.cells e) = full_row_reads T.elements.reads T.elements.shown tuple.shown_constant tuple.shown_row columns i (T.cells e) (k ∙ c.in-Ok.ensures.same i there) c.in-Ok.ensures.read (c.requires.ready.full i below) in
+    let agree : AgreesWith (T.known known) (T.cells e) = agrees_at (T.known known) (T.known_of decoded) (T.cells e) (T.shows decoded i) c.known_values.ensures.known k (tuple.known_agrees decoded i) in
+    c.requires.checks.callable known c.in-Ok-prepare.prepared _ e c.known_values.ensures.read c.in-Ok-prepare.ensures refl read agree
 
 pub accepted_values-answer-requires : goal.accepted_values-answer-requires
 accepted_values-answer-requires g c =
@@ -57,23 +57,23 @@ accepted_values-answer-requires g c =
     let columns = self.columns.now in
     let marks = self.valid.now in
     let n = trues marks in
-    let meaning = g.F.RowSpec.meaning self.options.now types in
+    let law = g.F.RowSpec.law self.options.now types in
     let V = g.F.Evidence.FailureEvidence in
     let T = g.Args.ElementTuple in
-    let law = g.met.Args.ElementTuple in
+    let tuple = g.met.Args.ElementTuple in
     let decoded = c.in-Ok.decoded in
     let known = c.known_values.result in
     let run = c.execute_owned_filtered-answer in
     let lengths = ap (each_length n) c.in-Ok.ensures.lengths ∙ each_decoded n columns c.requires.ready.rows in
     let same = λ (i : ℕ) (h : i < n). c.in-Ok.ensures.same i (has_row n (T.lengths decoded) lengths i h) in
-    let rows = joined_rows V.in_range V.join V.neutral g.F.RowSpec.finish meaning T.cells (T.shows decoded) g.Out.OutputElement.states (full_cells columns) (λ (i : ℕ). row c.in-Ok-answer.values (place marks i)) (λ (i : ℕ). true) n c.in-Ok-answer.evidence
-    V.laws g.met.F.RowSpec.finish_laws (g.met.F.RowSpec.evidence_in_range self.options.now types) (full_selected columns n c.requires.ready.full)
-    (λ i of h e. same i h ∙ shown_full T.shown law.shown_constant law.shown_row 0 columns i of e)
-    (λ i h s x r k p. c.requires.agrees known c.in-Ok-prepare.prepared _ x r c.known_values.ensures.read c.in-Ok-prepare.ensures refl
-    (full_row_reads T.reads T.shown law.shown_constant law.shown_row columns i (T.cells x) (k ∙ same i h) c.in-Ok.ensures.read (c.requires.ready.full i h))
-    (agrees_at (T.known known) (T.known_of decoded) (T.cells x) (T.shows decoded i) c.known_values.ensures.known k (law.known_agrees decoded i)) p)
+    let rows = joined_rows V.in_range V.join V.neutral law _ g.F.RowSpec.INFALLIBLE T.cells (T.shows decoded) g.Out.OutputElement.states (full_cells columns) (λ (i : ℕ). row c.in-Ok-answer.values (place marks i)) (λ (i : ℕ). true) n c.in-Ok-answer.evidence
+    V.laws (g.met.F.RowSpec.lawful self.options.now types) (full_selected columns n c.requires.ready.full)
+    (λ i of h e. same i h ∙ shown_full T.elements.shown tuple.shown_constant tuple.shown_row 0 columns i of e)
+    (λ i h s x r k p. c.requires.checks.agrees known c.in-Ok-prepare.prepared _ x r c.known_values.ensures.read c.in-Ok-prepare.ensures refl
+    (full_row_reads T.elements.reads T.elements.shown tuple.shown_constant tuple.shown_row columns i (T.cells x) (k ∙ same i h) c.in-Ok.ensures.read (c.requires.ready.full i h))
+    (agrees_at (T.known known) (T.known_of decoded) (T.cells x) (T.shows decoded i) c.known_values.ensures.known k (tuple.known_agrees decoded i)) p)
     (Joined-at _ _ _ _ _ _ _ (trues-count_by marks) (of_ok _ run.result.0 (c.in-Ok-answer.values, c.in-Ok-answer.evidence) c.in-Ok-answer.is run.ensures.rows)) in
-    c.requires.judges c.in-Ok-answer.evidence rows.ranged
+    c.requires.judges.callable c.in-Ok-answer.evidence rows.ranged
 
 pub returns : goal.returns
 returns g c =
@@ -82,35 +82,34 @@ returns g c =
     let columns = self.columns.now in
     let marks = self.valid.now in
     let n = trues marks in
-    let meaning = g.F.RowSpec.meaning self.options.now types in
+    let law = g.F.RowSpec.law self.options.now types in
     let V = g.F.Evidence.FailureEvidence in
     let T = g.Args.ElementTuple in
-    let law = g.met.Args.ElementTuple in
+    let tuple = g.met.Args.ElementTuple in
     let decoded = c.in-Ok.decoded in
     let known = c.known_values.result in
     let run = c.execute_owned_filtered-answer in
     let lengths = ap (each_length n) c.in-Ok.ensures.lengths ∙ each_decoded n columns c.requires.ready.rows in
     let same = λ (i : ℕ) (h : i < n). c.in-Ok.ensures.same i (has_row n (T.lengths decoded) lengths i h) in
-    let storage = (g.F.RowSpec.output self.options.now types).storage in
-    let Gives : Array → Type 0 = FilteredColumn g.F.RowSpec.finish meaning storage columns marks in
-    let Decodes : Fault → Type 0 = DecodeFails (g.F.RowSpec.reads self.options.now types) 0 columns in
-    let deferred = g.F.RowSpec.deferred self.options.now types in
-    let evidence = joined V.join V.neutral meaning (full_cells columns) n in
-    let Fails : Fault → Type 0 = λ e. Decodes e ⊎ EvidenceFails deferred g.F.RowSpec.finish evidence e in
+    let read = reads_full law T.elements.reads columns n c.requires.arguments.reads (each_decoded n columns c.requires.ready.rows) c.in-Ok.ensures.read in
+    let Gives : Array → Type 0 = FilteredColumn law columns marks in
+    let Decodes : Fault → Type 0 = DecodeFails law.arguments.reads 0 columns in
+    let evidence = joined law.join law.neutral law.meaning (full_cells columns) n in
+    let Fails : Fault → Type 0 = λ e. Decodes e ⊎ EvidenceFails law.deferred law.finish evidence e in
     let counted = trues-count_by marks in
     let most : run.result.1 ≤ n = subst (λ (k : ℕ). run.result.1 ≤ k) counted run.ensures.most in
     elim c.match-answer.branch [
       | in-Ok-answer w ↦
           let ok = w.in-Ok-answer in
-          let rows = joined_rows V.in_range V.join V.neutral g.F.RowSpec.finish meaning T.cells (T.shows decoded) g.Out.OutputElement.states (full_cells columns) (λ (i : ℕ). row ok.values (place marks i)) (λ (i : ℕ). true) n ok.evidence
-          V.laws g.met.F.RowSpec.finish_laws (g.met.F.RowSpec.evidence_in_range self.options.now types) (full_selected columns n c.requires.ready.full)
-          (λ i of h e. same i h ∙ shown_full T.shown law.shown_constant law.shown_row 0 columns i of e)
-          (λ i h s x r k p. c.requires.agrees known c.in-Ok-prepare.prepared _ x r c.known_values.ensures.read c.in-Ok-prepare.ensures refl
-          (full_row_reads T.reads T.shown law.shown_constant law.shown_row columns i (T.cells x) (k ∙ same i h) c.in-Ok.ensures.read (c.requires.ready.full i h))
-          (agrees_at (T.known known) (T.known_of decoded) (T.cells x) (T.shows decoded i) c.known_values.ensures.known k (law.known_agrees decoded i)) p)
+          let rows = joined_rows V.in_range V.join V.neutral law _ g.F.RowSpec.INFALLIBLE T.cells (T.shows decoded) g.Out.OutputElement.states (full_cells columns) (λ (i : ℕ). row ok.values (place marks i)) (λ (i : ℕ). true) n ok.evidence
+          V.laws (g.met.F.RowSpec.lawful self.options.now types) (full_selected columns n c.requires.ready.full)
+          (λ i of h e. same i h ∙ shown_full T.elements.shown tuple.shown_constant tuple.shown_row 0 columns i of e)
+          (λ i h s x r k p. c.requires.checks.agrees known c.in-Ok-prepare.prepared _ x r c.known_values.ensures.read c.in-Ok-prepare.ensures refl
+          (full_row_reads T.elements.reads T.elements.shown tuple.shown_constant tuple.shown_row columns i (T.cells x) (k ∙ same i h) c.in-Ok.ensures.read (c.requires.ready.full i h))
+          (agrees_at (T.known known) (T.known_of decoded) (T.cells x) (T.shows decoded i) c.known_values.ensures.known k (tuple.known_agrees decoded i)) p)
           (Joined-at _ _ _ _ _ _ _ (trues-count_by marks) (of_ok _ run.result.0 (ok.values, ok.evidence) ok.is run.ensures.rows)) in
-          let column = filtered_rows_column V.in_range V.join V.neutral g.F.RowSpec.finish meaning storage g.Out.OutputElement.element_type columns marks ok.evidence ok.values c.requires.output.storage (of_ok _ run.result.0 (ok.values, ok.evidence) ok.is run.ensures.dtype) (of_ok _ run.result.0 (ok.values, ok.evidence) ok.is run.ensures.len) rows in
+          let column = filtered_rows_column V.in_range law g.Out.OutputElement.element_type columns marks ok.evidence ok.values c.requires.output.storage (of_ok _ run.result.0 (ok.values, ok.evidence) ok.is run.ensures.dtype) (of_ok _ run.result.0 (ok.values, ok.evidence) ok.is run.ensures.len) read rows in
           let least : n ≤ run.result.1 = subst (λ (k : ℕ). k ≤ run.result.1) counted (of_ok _ run.result.0 (ok.values, ok.evidence) ok.is run.ensures.least) in
-          subst (λ (r : Result Array Fault). RanRows n Gives Fails r 1 run.result.1) (sym w.answer-is) (ran_judged _ n run.result.1 Gives Decodes deferred g.F.RowSpec.finish ok.evidence evidence ok.values w.accepted_values-answer.result c.requires.deferred rows.is (λ r p. c.requires.finishes ok.evidence r rows.ranged p) column w.accepted_values-answer.ensures most least)
+          subst (λ (r : Result Array Fault). RanRows n Gives Fails r 1 run.result.1) (sym w.answer-is) (ran_judged _ n run.result.1 Gives Decodes law.deferred law.finish ok.evidence evidence ok.values w.accepted_values-answer.result c.requires.deferred rows.is (λ r p. c.requires.judges.finishes ok.evidence r rows.ranged p) column w.accepted_values-answer.ensures most least)
       | in-Err-answer w ↦ ran_out n run.result.1 Gives Fails c.match-answer.answer w.in-Err-answer.fault w.answer-is (inl (inl (of_err _ run.result.0 w.in-Err-answer.fault w.in-Err-answer.is run.ensures.errors))) most
     ]
