@@ -1,8 +1,8 @@
 // Columns that tests make and read, and what they ask of an answer.
 use bitlane::BitBuffer;
 use colbase::{
-    ArrayRef, Buffer, ConstantArray, DType, ExecutionArgs, ExecutionCtx, MaskedArray, Nullability,
-    PType, PrimitiveArray, Scalar, ScalarValue, Validity,
+    ArrayRef, Buffer, ConstantArray, DType, ExecutionArgs, ExecutionCtx, MaskedArray, NativeInt,
+    Nullability, PType, PrimitiveArray, Scalar, ScalarValue, Validity,
 };
 use rowexec::Counted;
 use std::test::Fail;
@@ -94,6 +94,14 @@ pub fn has_rows(array: &ArrayRef, rows: &[Option<i64>], ctx: ExecutionCtx) -> Re
         }
     }
     Ok(true)
+}
+
+/// Whether these numbers are stored in the column, under its nulls too.
+pub fn stores(array: &ArrayRef, numbers: &[i64]) -> bool {
+    match i64::values_of(array) {
+        Some(values) => values.as_slice() == numbers,
+        None => false,
+    }
 }
 
 /// Whether the answer has these numbers as its rows.

@@ -14,6 +14,8 @@ mod filtered_loops;
 #[cfg(test)]
 mod loops;
 #[cfg(test)]
+mod payloads;
+#[cfg(test)]
 mod plans;
 #[cfg(test)]
 mod prepared;
@@ -21,6 +23,8 @@ mod prepared;
 mod refusals;
 #[cfg(test)]
 mod retry;
+#[cfg(test)]
+mod texts;
 #[cfg(test)]
 mod truths;
 #[cfg(test)]

@@ -5,7 +5,7 @@ use colbase::{
 };
 use rowexec::{CallEngine, RowEngine, RowFnVTable};
 use rowplan::RowFn;
-use rowsample::WrappingAdd;
+use rowsample::{CheckedAdd, WrappingAdd};
 use std::test::Fail;
 
 // Three rows of two columns, the first of which is null in the middle.
@@ -45,6 +45,21 @@ fn marks_the_full_rows(rt: HostRuntime) -> Result<(), Fail> {
     Ok(())
 }
 
+// Three rows of two columns, of which the first is null in its first row and the second in its last.
+fn with_a_null_in_each(ctx: ExecutionCtx) -> Result<ExecutionArgs, Fail> {
+    let first = numbers(&[99, 2, 3], all_but(0, 3, ctx)?, ctx)?;
+    let second = numbers(&[10, 20, 99], all_but(2, 3, ctx)?, ctx)?;
+    two(first, second, 3, ctx)
+}
+
+#[test]
+fn marks_the_rows_that_are_full_in_both_columns(rt: HostRuntime) -> Result<(), Fail> {
+    let ctx = ExecutionCtx::new(rt.alloc());
+    let mask = RowFnVTable(WrappingAdd).validity(&with_a_null_in_each(ctx)?, ctx)?;
+    assert!(rt; !is_marked(&mask, 0) && is_marked(&mask, 1) && !is_marked(&mask, 2));
+    Ok(())
+}
+
 #[test]
 fn states_its_type(rt: HostRuntime) -> Result<(), Fail> {
     let number = DType::Primitive(PType::I64, Nullability::NonNullable);
@@ -62,4 +77,16 @@ fn tells_its_names(rt: HostRuntime) {
     assert_eq!(rt; WrappingAdd.id(), "wrapping_add");
     assert_eq!(rt; RowFnVTable(WrappingAdd).child_name(0), "lhs");
     assert_eq!(rt; RowFnVTable(WrappingAdd).child_name(1), "rhs");
+}
+
+#[test]
+fn tells_how_many_arguments_it_takes(rt: HostRuntime) {
+    assert_eq!(rt; RowFnVTable(WrappingAdd).arity(), 2);
+}
+
+#[test]
+fn tells_what_a_row_may_do(rt: HostRuntime) {
+    assert!(rt; RowFnVTable(WrappingAdd).is_strict());
+    assert!(rt; RowFnVTable(WrappingAdd).is_infallible());
+    assert!(rt; !RowFnVTable(CheckedAdd).is_infallible());
 }
