@@ -5,8 +5,8 @@ ghost use Rattle.rowplan.specs.Outcomes.{judged};
 ghost use Rattle.rowcases.specs.Cases.{flags_told};
 
 use crate::calls::Calls;
-use colbase::{DType, EmptyOptions, ExecutionCtx, Res, RowError};
-use rowplan::{NoForm, RowFn, RowSpec, RowVisitor};
+use colbase::RowError;
+use rowplan::{DType, EmptyOptions, ExecutionCtx, Res, RowFn, RowSpec, RowVisitor};
 
 /// One number of 8 bits, which is the answer and the evidence of its row: the bits that are set in some row are told as the
 /// error. It counts the calls of its callback.
@@ -31,35 +31,28 @@ impl Flags {
 }
 
 impl RowSpec for Flags {
-    ghost use Rattle.std.specs.Prelude.{false, map};
     ghost use Rattle.std.specs.Prelude.{bit_or, ◌%◌};
-    ghost use Rattle.rowplan.specs.Constructors.{by_evidence, evidence_is_lawful};
+    ghost use Rattle.rowplan.specs.Constructors.{by_evidence, evidence_is_lawful, false, texts_of};
     ghost use Rattle.rowplan.specs.declared.batch_plan.RowPolicy.TheVariants.{DenseWithRetry};
     ghost use Rattle.rowcases.specs.Cases.{below_256, flag, flags_finish, flags_told, only_number, u8_stored};
     ghost use Rattle.rowcases.specs.declared.flags.TheConstants.{NAMES as names};
 
     type Options = EmptyOptions;
 
-    type Form = NoForm;
-
     type Evidence = u8;
 
-    const ARG_NAMES: &'static [&'static str] = NAMES;
+    const ARG_NAMES: rowplan::Texts = rowplan::Texts(NAMES);
+
+    ghost ARG_NAMES = { texts_of names };
 
     const INFALLIBLE: bool = false;
 
     ghost INFALLIBLE = { false };
 
-    ghost names = { map (λ name. name.now) names.now };
-
     ghost law = { λ o t. by_evidence bit_or 0 flags_told 1 ⟦<(u8,) as rowtypes::ElementTuple>⟧.elements DenseWithRetry u8_stored flag
         (λ cells. only_number cells % 256) };
 
     ghost lawful = { λ o t. evidence_is_lawful flags_finish (λ cells. below_256 (only_number cells)) };
-
-    fn names_of_arguments() -> &'static [&'static str] {
-        Self::ARG_NAMES
-    }
 }
 
 impl RowFn for Flags {

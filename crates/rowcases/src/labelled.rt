@@ -1,9 +1,8 @@
 // A function whose declared output type is no extension over its storage type, so that each plan of it is refused.
 ghost use Rattle.std.specs.Prelude.{◌≡◌, ◌⊎◌, true};
 
-use bitlane::NoFailure;
-use colbase::{DType, EmptyOptions, ExecutionCtx, ExtDType, Nullability, PType, Res};
-use rowplan::{NoForm, RowFn, RowSpec, RowVisitor};
+use colbase::{ExtDType, Nullability, PType};
+use rowplan::{DType, EmptyOptions, ExecutionCtx, NoFailure, Res, RowFn, RowSpec, RowVisitor};
 
 /// One number, which is the answer. The output type that is declared is an extension over numbers of 32 bits.
 pub struct Labelled;
@@ -11,9 +10,8 @@ pub struct Labelled;
 const NAMES: &'static [&'static str] = &["value"];
 
 impl RowSpec for Labelled {
-    ghost use Rattle.std.specs.Prelude.{true, map};
     ghost use Rattle.std.specs.Prelude.{Some};
-    ghost use Rattle.rowplan.specs.Constructors.{total, total_is_lawful};
+    ghost use Rattle.rowplan.specs.Constructors.{texts_of, total, total_is_lawful, true};
     ghost use Rattle.rowplan.specs.Law.{labelled, labelled_is_lawful};
     ghost use Rattle.rowplan.specs.declared.batch_plan.RowPolicy.TheVariants.{Dense};
     ghost use Rattle.rowsample.specs.Functions.{i64_stored};
@@ -22,25 +20,19 @@ impl RowSpec for Labelled {
 
     type Options = EmptyOptions;
 
-    type Form = NoForm;
-
     type Evidence = NoFailure;
 
-    const ARG_NAMES: &'static [&'static str] = NAMES;
+    const ARG_NAMES: rowplan::Texts = rowplan::Texts(NAMES);
+
+    ghost ARG_NAMES = { texts_of names };
 
     const INFALLIBLE: bool = true;
 
     ghost INFALLIBLE = { true };
 
-    ghost names = { map (λ name. name.now) names.now };
-
     ghost law = { λ o t. labelled (Some narrow_label) (total 1 ⟦<(i64,) as rowtypes::ElementTuple>⟧.elements Dense i64_stored first_cell) };
 
     ghost lawful = { λ o t. labelled_is_lawful (Some narrow_label) (total_is_lawful _ _ _ _ _ _) };
-
-    fn names_of_arguments() -> &'static [&'static str] {
-        Self::ARG_NAMES
-    }
 }
 
 impl RowFn for Labelled {

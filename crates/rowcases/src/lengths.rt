@@ -3,9 +3,7 @@ ghost use Rattle.std.specs.Prelude.{◌≡◌, ◌⊎◌, true, length};
 
 use crate::calls::Calls;
 use crate::measured::{Direct, Measured};
-use bitlane::NoFailure;
-use colbase::{DType, EmptyOptions, ExecutionCtx, Res};
-use rowplan::{NoForm, RowFn, RowSpec, RowVisitor};
+use rowplan::{DType, EmptyOptions, ExecutionCtx, NoFailure, Res, RowFn, RowSpec, RowVisitor};
 use std::cell::Cell;
 
 /// One number, which is the answer. It notes the length of the column that the last row was decoded from, and counts the calls
@@ -38,8 +36,7 @@ impl Lengths {
 }
 
 impl RowSpec for Lengths {
-    ghost use Rattle.std.specs.Prelude.{true, map};
-    ghost use Rattle.rowplan.specs.Constructors.{total, total_is_lawful};
+    ghost use Rattle.rowplan.specs.Constructors.{texts_of, total, total_is_lawful, true};
     ghost use Rattle.rowplan.specs.declared.batch_plan.RowPolicy.TheVariants.{ValidOnly};
     ghost use Rattle.rowsample.specs.Functions.{i64_stored};
     ghost use Rattle.rowcases.specs.Cases.{first_cell};
@@ -47,25 +44,19 @@ impl RowSpec for Lengths {
 
     type Options = EmptyOptions;
 
-    type Form = NoForm;
-
     type Evidence = NoFailure;
 
-    const ARG_NAMES: &'static [&'static str] = NAMES;
+    const ARG_NAMES: rowplan::Texts = rowplan::Texts(NAMES);
+
+    ghost ARG_NAMES = { texts_of names };
 
     const INFALLIBLE: bool = true;
 
     ghost INFALLIBLE = { true };
 
-    ghost names = { map (λ name. name.now) names.now };
-
     ghost law = { λ o t. total 1 ⟦<(Direct,) as rowtypes::ElementTuple>⟧.elements ValidOnly i64_stored first_cell };
 
     ghost lawful = { λ o t. total_is_lawful _ _ _ _ _ _ };
-
-    fn names_of_arguments() -> &'static [&'static str] {
-        Self::ARG_NAMES
-    }
 }
 
 impl RowFn for Lengths {

@@ -2,9 +2,7 @@
 ghost use Rattle.std.specs.Prelude.{◌≡◌, ◌⊎◌, true};
 
 use crate::calls::Calls;
-use bitlane::NoFailure;
-use colbase::{DType, EmptyOptions, ExecutionCtx, Res};
-use rowplan::{NoForm, RowFn, RowSpec, RowVisitor};
+use rowplan::{DType, EmptyOptions, ExecutionCtx, NoFailure, Res, RowFn, RowSpec, RowVisitor};
 
 /// Whether the first of two numbers is below the second, by either collector. It counts the calls of its callback.
 #[derive(Drop)]
@@ -30,33 +28,26 @@ impl Ordered {
 }
 
 impl RowSpec for Ordered {
-    ghost use Rattle.std.specs.Prelude.{true, map};
-    ghost use Rattle.rowplan.specs.Constructors.{total, total_is_lawful};
+    ghost use Rattle.rowplan.specs.Constructors.{texts_of, total, total_is_lawful, true};
     ghost use Rattle.rowplan.specs.declared.batch_plan.RowPolicy.TheVariants.{Dense};
     ghost use Rattle.rowcases.specs.Cases.{bool_stored, ordered};
     ghost use Rattle.rowcases.specs.declared.ordered.TheConstants.{NAMES as names};
 
     type Options = EmptyOptions;
 
-    type Form = NoForm;
-
     type Evidence = NoFailure;
 
-    const ARG_NAMES: &'static [&'static str] = NAMES;
+    const ARG_NAMES: rowplan::Texts = rowplan::Texts(NAMES);
+
+    ghost ARG_NAMES = { texts_of names };
 
     const INFALLIBLE: bool = true;
 
     ghost INFALLIBLE = { true };
 
-    ghost names = { map (λ name. name.now) names.now };
-
     ghost law = { λ o t. total 2 ⟦<(i64, i64) as rowtypes::ElementTuple>⟧.elements Dense bool_stored ordered };
 
     ghost lawful = { λ o t. total_is_lawful _ _ _ _ _ _ };
-
-    fn names_of_arguments() -> &'static [&'static str] {
-        Self::ARG_NAMES
-    }
 }
 
 impl RowFn for Ordered {

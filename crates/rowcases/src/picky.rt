@@ -1,9 +1,8 @@
 // A function that takes no call.
 ghost use Rattle.std.specs.Prelude.{◌≡◌, ◌⊎◌, true, false, Err};
 
-use bitlane::NoFailure;
-use colbase::{DType, EmptyOptions, ExecutionCtx, Fault, Res};
-use rowplan::{NoForm, RowFn, RowSpec, RowVisitor};
+use colbase::Fault;
+use rowplan::{DType, EmptyOptions, ExecutionCtx, NoFailure, Res, RowFn, RowSpec, RowVisitor};
 
 /// One number. No call is taken.
 pub struct Picky;
@@ -11,9 +10,8 @@ pub struct Picky;
 const NAMES: &'static [&'static str] = &["value"];
 
 impl RowSpec for Picky {
-    ghost use Rattle.std.specs.Prelude.{true, map};
     ghost use Rattle.std.specs.Prelude.{false};
-    ghost use Rattle.rowplan.specs.Constructors.{total, total_is_lawful};
+    ghost use Rattle.rowplan.specs.Constructors.{texts_of, total, total_is_lawful, true};
     ghost use Rattle.rowplan.specs.Law.{accepted_is_lawful, accepted_where};
     ghost use Rattle.rowplan.specs.declared.batch_plan.RowPolicy.TheVariants.{Dense};
     ghost use Rattle.rowsample.specs.Functions.{i64_stored};
@@ -22,25 +20,19 @@ impl RowSpec for Picky {
 
     type Options = EmptyOptions;
 
-    type Form = NoForm;
-
     type Evidence = NoFailure;
 
-    const ARG_NAMES: &'static [&'static str] = NAMES;
+    const ARG_NAMES: rowplan::Texts = rowplan::Texts(NAMES);
+
+    ghost ARG_NAMES = { texts_of names };
 
     const INFALLIBLE: bool = true;
 
     ghost INFALLIBLE = { true };
 
-    ghost names = { map (λ name. name.now) names.now };
-
     ghost law = { λ o t. accepted_where false (total 1 ⟦<(i64,) as rowtypes::ElementTuple>⟧.elements Dense i64_stored first_cell) };
 
     ghost lawful = { λ o t. accepted_is_lawful false (total_is_lawful _ _ _ _ _ _) };
-
-    fn names_of_arguments() -> &'static [&'static str] {
-        Self::ARG_NAMES
-    }
 }
 
 impl RowFn for Picky {

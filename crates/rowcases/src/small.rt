@@ -4,8 +4,8 @@ ghost use Rattle.rowplan.specs.Outcomes.{judged};
 ghost use Rattle.rowplan.specs.Constructors.{code_where};
 
 use crate::calls::Calls;
-use colbase::{DType, EmptyOptions, ExecutionCtx, Res, RowError};
-use rowplan::{NoForm, RowFn, RowSpec, RowVisitor};
+use colbase::RowError;
+use rowplan::{DType, EmptyOptions, ExecutionCtx, Res, RowFn, RowSpec, RowVisitor};
 
 /// Which visit hands over the evidence.
 #[derive(Clone, Copy, Debug)]
@@ -41,36 +41,29 @@ impl Small {
 }
 
 impl RowSpec for Small {
-    ghost use Rattle.std.specs.Prelude.{false, map};
     ghost use Rattle.std.specs.Prelude.{nat_lt};
     ghost use Rattle.coltypes.specs.Cell.{truth};
-    ghost use Rattle.rowplan.specs.Constructors.{fails_is_lawful, fails_with};
+    ghost use Rattle.rowplan.specs.Constructors.{fails_is_lawful, fails_with, false, texts_of};
     ghost use Rattle.rowplan.specs.declared.batch_plan.RowPolicy.TheVariants.{DenseWithRetry};
     ghost use Rattle.rowcases.specs.Cases.{bool_stored, only_number};
     ghost use Rattle.rowcases.specs.declared.small.TheConstants.{NAMES as names};
 
     type Options = EmptyOptions;
 
-    type Form = NoForm;
-
     type Evidence = bool;
 
-    const ARG_NAMES: &'static [&'static str] = NAMES;
+    const ARG_NAMES: rowplan::Texts = rowplan::Texts(NAMES);
+
+    ghost ARG_NAMES = { texts_of names };
 
     const INFALLIBLE: bool = false;
 
     ghost INFALLIBLE = { false };
 
-    ghost names = { map (λ name. name.now) names.now };
-
     ghost law = { λ o t. fails_with 1 1 ⟦<(u8,) as rowtypes::ElementTuple>⟧.elements DenseWithRetry bool_stored
         (λ cells. truth (nat_lt (only_number cells) 5)) (λ cells. nat_lt 9 (only_number cells)) };
 
     ghost lawful = { λ o t. fails_is_lawful 1 1 _ _ _ _ _ };
-
-    fn names_of_arguments() -> &'static [&'static str] {
-        Self::ARG_NAMES
-    }
 }
 
 impl RowFn for Small {

@@ -1,9 +1,7 @@
 // A function by a prepared visit, which takes the second number from a constant where it is one.
 ghost use Rattle.std.specs.Prelude.{◌≡◌, ◌⊎◌, true, Option};
 
-use bitlane::NoFailure;
-use colbase::{DType, EmptyOptions, ExecutionCtx, Res};
-use rowplan::{NoForm, RowFn, RowSpec, RowVisitor};
+use rowplan::{DType, EmptyOptions, ExecutionCtx, NoFailure, Res, RowFn, RowSpec, RowVisitor};
 use std::cell::Cell;
 
 /// The sum of two numbers modulo 2^64, by a prepared visit that takes the second number from a constant. It notes what `prepare`
@@ -29,33 +27,26 @@ impl SumPrepared {
 }
 
 impl RowSpec for SumPrepared {
-    ghost use Rattle.std.specs.Prelude.{true, map};
-    ghost use Rattle.rowplan.specs.Constructors.{total, total_is_lawful};
+    ghost use Rattle.rowplan.specs.Constructors.{texts_of, total, total_is_lawful, true};
     ghost use Rattle.rowplan.specs.declared.batch_plan.RowPolicy.TheVariants.{Dense};
     ghost use Rattle.rowsample.specs.Functions.{i64_stored, wrapping_sum};
     ghost use Rattle.rowcases.specs.declared.sum_prepared.TheConstants.{NAMES as names};
 
     type Options = EmptyOptions;
 
-    type Form = NoForm;
-
     type Evidence = NoFailure;
 
-    const ARG_NAMES: &'static [&'static str] = NAMES;
+    const ARG_NAMES: rowplan::Texts = rowplan::Texts(NAMES);
+
+    ghost ARG_NAMES = { texts_of names };
 
     const INFALLIBLE: bool = true;
 
     ghost INFALLIBLE = { true };
 
-    ghost names = { map (λ name. name.now) names.now };
-
     ghost law = { λ o t. total 2 ⟦<(i64, i64) as rowtypes::ElementTuple>⟧.elements Dense i64_stored wrapping_sum };
 
     ghost lawful = { λ o t. total_is_lawful _ _ _ _ _ _ };
-
-    fn names_of_arguments() -> &'static [&'static str] {
-        Self::ARG_NAMES
-    }
 }
 
 impl RowFn for SumPrepared {

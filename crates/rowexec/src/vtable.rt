@@ -13,15 +13,15 @@ pub struct RowFnVTable<F>(pub F);
 
 impl<F: RowFn> RowFnVTable<F> {
     pub fn arity(&self) -> usize
-        ensures { result ≡ length F.names }
+        ensures { result ≡ length F.ARG_NAMES }
     {
         F::names_of_arguments().len()
     }
 
     /// The name of an argument.
     pub fn child_name(&self, index: usize) -> &'static str
-        requires { index < length F.names }
-        ensures { (default : List ℕ) → result.now ≡ slice_index_or F.names index default }
+        requires { index < length F.ARG_NAMES }
+        ensures { (default : List ℕ) → result.now ≡ slice_index_or F.ARG_NAMES index default }
     {
         F::names_of_arguments()[index]
     }
@@ -52,7 +52,7 @@ impl<F: RowFn> RowFnVTable<F> {
 
     /// The rows at which no argument is null.
     pub fn validity(&self, args: &ExecutionArgs, ctx: ExecutionCtx) -> Res<Mask>
-        ensures { MarksFull (length F.names) args.now.columns args.now.row_count result }
+        ensures { MarksFull (length F.ARG_NAMES) args.now.columns args.now.row_count result }
     {
         full_mask::<F>(args, ctx)
     }

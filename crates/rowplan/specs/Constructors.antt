@@ -1,7 +1,8 @@
 -- The laws of the usual kinds of row functions, each made from what is its own: its arguments, its output and the meaning of a row. That
 -- they are lawful is proved here once, so that a function cites it in a line.
 use Rattle.std.proofs.Common.{subst}
-use Rattle.std.specs.Prelude.{◌≡◌, ◌||◌, ℕ, Bool, true, false, not, List, Option, None, Some, T, ⊤, refl}
+use Rattle.std.specs.Prelude.{◌≡◌, ◌||◌, ℕ, Bool, not, List, Option, None, Some, T, ⊤, map, refl}
+pub use Rattle.std.specs.Prelude.{true, false}
 use Rattle.bitlane.specs.declared.failure_evidence.NoFailure.{NoFailure}
 use Rattle.coltypes.specs.Cell.{Cell}
 use Rattle.coltypes.specs.LogicalType.{LogicalType}
@@ -9,6 +10,10 @@ use Rattle.rowtypes.specs.Elements.{Elements}
 use Rattle.rowplan.specs.declared.batch_plan.RowPolicy.{RowPolicy}
 use Rattle.rowplan.specs.Law.{Lawful, RowLaw}
 use Rattle.rowplan.specs.Outcomes.{FinishLaws, done}
+
+-- the texts that a constant of a module lists
+abbrev pub texts_of : record { now : List (record { now : List ℕ }) } → List (List ℕ)
+texts_of listed = map (λ text. text.now) listed.now
 
 -- an output of this type, which is stored and shown, and holds this cell at rows that are skipped
 pub record Stored : Type 0 where

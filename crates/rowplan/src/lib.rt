@@ -6,11 +6,14 @@ mod batch_plan;
 mod options_form;
 mod row_fn;
 mod row_spec;
+mod texts;
 mod visitor;
 
 pub use batch_plan::{BatchPlan, RowPolicy, is_any_nullable};
 pub use bitlane::{FailureEvidence, NoFailure};
-pub use options_form::{NoForm, OptionsForm};
+pub use colbase::{DType, EmptyOptions, ExecutionCtx, Res};
+pub use options_form::{NoForm, OptionsForm, RowOptions};
 pub use row_fn::RowFn;
 pub use row_spec::RowSpec;
+pub use texts::Texts;
 pub use visitor::{BatchPlanner, RowVisitor};

@@ -1,7 +1,7 @@
 // The form of options as bytes, apart from the function, so that a function without one says so in a line.
 ghost use Rattle.std.specs.Prelude.{◌≡◌, ◌⊎◌, true, false, Bool, ℕ, List, IfOk, IfErr, IfSome, is_some};
 
-use colbase::{ExecutionCtx, Fault, Res};
+use colbase::{EmptyOptions, ExecutionCtx, Fault, Res};
 
 /// Which bytes state which options, where options have a form.
 pub trait OptionsForm<O> {
@@ -23,6 +23,15 @@ pub trait OptionsForm<O> {
         ensures states { IfOk result (λ o. states metadata.now o) }
         ensures errors { IfErr result (λ e. (e ≡ Memory) ⊎ (((e ≡ NotSerializable) × (has_form ≡ false)) ⊎
             ((e ≡ Metadata) × (has_form ≡ true) × ((o : O) → states metadata.now o → ⊥)))) };
+}
+
+/// Options of a row function. Their type says which form they have, so that no function says it again.
+pub trait RowOptions: Sized {
+    type Form: OptionsForm<Self>;
+}
+
+impl RowOptions for EmptyOptions {
+    type Form = NoForm;
 }
 
 /// Options without a form as bytes.

@@ -1,7 +1,7 @@
 // The calls of a row function, whose contracts tie it to its law in `RowSpec`.
 ghost use Rattle.std.specs.Prelude.{◌≡◌, ◌⊎◌, true, false, length, Option, None, IfOk, IfErr, IfSome, Err, is_some};
 
-use crate::options_form::OptionsForm;
+use crate::options_form::{OptionsForm, RowOptions};
 use crate::row_spec::RowSpec;
 use crate::visitor::RowVisitor;
 use colbase::{DType, ExecutionCtx, Fault, Res};
@@ -15,22 +15,24 @@ pub trait RowFn: RowSpec + Sized {
 
     /// The options as bytes, by their form. None for a function whose options have no form.
     fn serialize(&self, options: &Self::Options, ctx: ExecutionCtx) -> Res<Option<Vec<u8>>>
-        ensures none { IfOk result (λ o. is_some o ≡ Self.Form.has_form) }
-        ensures states { IfOk result (λ o. IfSome o (λ bytes. Self.Form.states bytes.items options.now)) }
+        ensures none { IfOk result (λ o. is_some o ≡ Self.Options.Form.has_form) }
+        ensures states { IfOk result (λ o. IfSome o (λ bytes. Self.Options.Form.states bytes.items options.now)) }
         ensures errors { IfErr result (λ e. e ≡ Memory) }
     {
-        <Self::Form as OptionsForm<Self::Options>>::serialize(options, ctx)
+        <<Self::Options as RowOptions>::Form as OptionsForm<Self::Options>>::serialize(options, ctx)
     }
 
     /// The options that the bytes state. `NotSerializable` where options have no form, and `Metadata` where the bytes
     /// state none.
     fn deserialize(&self, metadata: &[u8], ctx: ExecutionCtx) -> Res<Self::Options>
-        ensures form { IfOk result (λ o. Self.Form.has_form ≡ true) }
-        ensures states { IfOk result (λ o. Self.Form.states metadata.now o) }
-        ensures errors { IfErr result (λ e. (e ≡ Memory) ⊎ (((e ≡ NotSerializable) × (Self.Form.has_form ≡ false)) ⊎
-            ((e ≡ Metadata) × (Self.Form.has_form ≡ true) × ((o : Self.Options) → Self.Form.states metadata.now o → ⊥)))) }
+        ensures form { IfOk result (λ o. Self.Options.Form.has_form ≡ true) }
+        ensures states { IfOk result (λ o. Self.Options.Form.states metadata.now o) }
+        ensures errors { IfErr result (λ e. (e ≡ Memory) ⊎ (((e ≡ NotSerializable) × (Self.Options.Form.has_form ≡ false)) ⊎
+            ((e ≡ Metadata) × (Self.Options.Form.has_form ≡ true) × ((o : Self.Options) → Self.Options.Form.states metadata.now o → ⊥)))) }
     {
-        <Self::Form as OptionsForm<Self::Options>>::deserialize(metadata, ctx)
+        <<Self::Options as RowOptions>::Form as OptionsForm<Self::Options>>::deserialize(
+            metadata, ctx,
+        )
     }
 
     /// Hands the visitor the visit for these options and types, and passes its answer on. `Refused` exactly where the

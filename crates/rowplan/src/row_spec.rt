@@ -2,7 +2,8 @@
 // visitor is a visitor of laws.
 ghost use Rattle.std.specs.Prelude.{◌≡◌, ℕ, Bool, List, length, map};
 
-use crate::options_form::OptionsForm;
+use crate::options_form::RowOptions;
+use crate::texts::Texts;
 use bitlane::FailureEvidence;
 use std::fmt::Display;
 use std::hash::Hash;
@@ -17,32 +18,31 @@ pub trait RowSpec {
     ghost use Rattle.coltypes.specs.LogicalType.{LogicalType};
     ghost use Rattle.rowplan.specs.Law.{Lawful, RowLaw};
 
-    type Options: Display + Eq + Hash + Drop;
-
-    /// The form of the options as bytes; [`NoForm`](crate::NoForm) for options that have none.
-    type Form: OptionsForm<Self::Options>;
+    type Options: RowOptions + Display + Eq + Hash + Drop;
 
     type Evidence: FailureEvidence;
 
     /// The names of the arguments, one for each.
-    const ARG_NAMES: &'static [&'static str];
+    const ARG_NAMES: Texts;
+
+    ghost ARG_NAMES: { List (List ℕ) };
 
     /// Whether no row fails.
     const INFALLIBLE: bool;
 
     ghost INFALLIBLE: { Bool };
 
-    // The text of each name.
-    ghost names: { List (List ℕ) };
-
     // What the function means at these options and types.
     ghost law: { Self.Options → List LogicalType → RowLaw Self.Evidence };
 
-    /// The names of the arguments, as a call that contracts can name.
+    /// The names of the arguments.
     fn names_of_arguments() -> &'static [&'static str]
-        ensures names { map (λ name. name.now) result.now ≡ names }
-        ensures as_many { length result.now ≡ length names };
+        ensures names { map (λ name. name.now) result.now ≡ ARG_NAMES }
+        ensures as_many { length result.now ≡ length ARG_NAMES }
+    {
+        Self::ARG_NAMES.list()
+    }
 
     ghost lawful: { (o : Self.Options) (t : List LogicalType) → Lawful (law o t)
-        (length names) INFALLIBLE Self.Evidence.in_range Self.Evidence.join Self.Evidence.neutral };
+        (length ARG_NAMES) INFALLIBLE Self.Evidence.in_range Self.Evidence.join Self.Evidence.neutral };
 }

@@ -1,6 +1,6 @@
 -- What the functions that the program knows mean, row by row, over plain cells: which cells they read, the exact number, and what of it is an
 -- error.
-use Rattle.std.specs.Prelude.{ℕ, ◌^◌, ℤ, pos, ◌+ℤ◌, ◌-ℤ◌, ◌*ℤ◌, if◌then◌else◌, ⊤, Bool, false, not, ◌||◌, List, [], ◌∷◌, Option, None, Some}
+use Rattle.std.specs.Prelude.{ℕ, ◌^◌, ℤ, pos, ◌+ℤ◌, ◌-ℤ◌, ◌*ℤ◌, if◌then◌else◌, ⊤, Bool, not, ◌||◌, List, [], ◌∷◌, Option, None, Some}
 use Rattle.std.specs.Int.{w64, int_rem_euclid, int_wrap, int_wrapping_add, is_positive}
 use Rattle.bitlane.specs.declared.failure_evidence.NoFailure.{NoFailure}
 use Rattle.coltypes.specs.declared.dtype.PType.TheVariants.{I64}
@@ -13,7 +13,8 @@ use Rattle.rowtypes.specs.Elements.{Elements}
 use Rattle.rowplan.specs.declared.batch_plan.RowPolicy.{RowPolicy}
 use Rattle.rowplan.specs.declared.batch_plan.RowPolicy.TheVariants.{Dense, DenseWithRetry, ValidOnly}
 use Rattle.rowplan.specs.Arguments.{Element, alone, number_element, pair, scale_element, timestamp_element}
-use Rattle.rowplan.specs.Constructors.{Stored, fails_is_lawful, fails_with, total}
+use Rattle.rowplan.specs.Constructors.{Stored, fails_is_lawful, fails_with}
+pub use Rattle.rowplan.specs.Constructors.{false, texts_of, total, total_is_lawful, true}
 use Rattle.rowplan.specs.Law.{Lawful, RowLaw, accepted_is_lawful, accepted_where, labelled, labelled_is_lawful}
 use Rattle.rowplan.specs.Outcomes.{Outcome, done}
 

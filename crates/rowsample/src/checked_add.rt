@@ -5,8 +5,7 @@ ghost use Rattle.rowplan.specs.Outcomes.{done};
 ghost use Rattle.rowsample.specs.Functions.{wrapped};
 
 use crate::evidence::judge;
-use colbase::{DType, EmptyOptions, ExecutionCtx, Res};
-use rowplan::{NoForm, RowFn, RowSpec, RowVisitor};
+use rowplan::{DType, EmptyOptions, ExecutionCtx, Res, RowFn, RowSpec, RowVisitor};
 
 /// The sum of two `i64`. It fails with the error 1 where a sum is no `i64`. It has no options with a form.
 #[derive(Clone, Copy, Debug, PartialEq, Eq)]
@@ -15,31 +14,24 @@ pub struct CheckedAdd;
 const NAMES: &'static [&'static str] = &["lhs", "rhs"];
 
 impl RowSpec for CheckedAdd {
-    ghost use Rattle.std.specs.Prelude.{false, map};
-    ghost use Rattle.rowsample.specs.Functions.{checked_adds, exact_is_lawful};
+    ghost use Rattle.rowsample.specs.Functions.{checked_adds, exact_is_lawful, false, texts_of};
     ghost use Rattle.rowsample.specs.declared.checked_add.TheConstants.{NAMES as names};
 
     type Options = EmptyOptions;
 
-    type Form = NoForm;
-
     type Evidence = bool;
 
-    const ARG_NAMES: &'static [&'static str] = NAMES;
+    const ARG_NAMES: rowplan::Texts = rowplan::Texts(NAMES);
+
+    ghost ARG_NAMES = { texts_of names };
 
     const INFALLIBLE: bool = false;
 
     ghost INFALLIBLE = { false };
 
-    ghost names = { map (λ name. name.now) names.now };
-
     ghost law = { λ o t. checked_adds };
 
     ghost lawful = { λ o t. exact_is_lawful _ _ _ _ };
-
-    fn names_of_arguments() -> &'static [&'static str] {
-        Self::ARG_NAMES
-    }
 }
 
 impl RowFn for CheckedAdd {

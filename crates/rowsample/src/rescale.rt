@@ -6,8 +6,7 @@ ghost use Rattle.rowsample.specs.Functions.{wrapped};
 ghost use Rattle.rowsample.specs.Powers.{power_of, HasBounds};
 
 use crate::evidence::judge;
-use colbase::{DType, EmptyOptions, ExecutionCtx, Res};
-use rowplan::{NoForm, RowFn, RowSpec, RowVisitor};
+use rowplan::{DType, EmptyOptions, ExecutionCtx, Res, RowFn, RowSpec, RowVisitor};
 use rowtypes::DecimalScale;
 use std::alloc::AllocError;
 
@@ -18,31 +17,24 @@ pub struct Rescale;
 const NAMES: &'static [&'static str] = &["value", "scale"];
 
 impl RowSpec for Rescale {
-    ghost use Rattle.std.specs.Prelude.{false, map};
-    ghost use Rattle.rowsample.specs.Functions.{exact_is_lawful, rescales};
+    ghost use Rattle.rowsample.specs.Functions.{exact_is_lawful, false, rescales, texts_of};
     ghost use Rattle.rowsample.specs.declared.rescale.TheConstants.{NAMES as names};
 
     type Options = EmptyOptions;
 
-    type Form = NoForm;
-
     type Evidence = bool;
 
-    const ARG_NAMES: &'static [&'static str] = NAMES;
+    const ARG_NAMES: rowplan::Texts = rowplan::Texts(NAMES);
+
+    ghost ARG_NAMES = { texts_of names };
 
     const INFALLIBLE: bool = false;
 
     ghost INFALLIBLE = { false };
 
-    ghost names = { map (λ name. name.now) names.now };
-
     ghost law = { λ o t. rescales };
 
     ghost lawful = { λ o t. exact_is_lawful _ _ _ _ };
-
-    fn names_of_arguments() -> &'static [&'static str] {
-        Self::ARG_NAMES
-    }
 }
 
 impl RowFn for Rescale {

@@ -7,8 +7,8 @@ ghost use Rattle.rowsample.specs.Functions.{wrapped};
 
 use crate::evidence::judge;
 use crate::label::{labelled, time_label};
-use colbase::{DType, ExecutionCtx, Fault, Res};
-use rowplan::{NoForm, RowFn, RowSpec, RowVisitor};
+use colbase::Fault;
+use rowplan::{DType, ExecutionCtx, NoForm, Res, RowFn, RowOptions, RowSpec, RowVisitor};
 use rowtypes::TimestampRow;
 use std::fmt::{self, Display};
 
@@ -25,6 +25,10 @@ impl Display for TruncateOptions {
     }
 }
 
+impl RowOptions for TruncateOptions {
+    type Form = NoForm;
+}
+
 /// A timestamp down to the last multiple of the ticks, in its own type. It fails with the error 1 where that is no `i64`, and
 /// its options have no form.
 #[derive(Clone, Copy, Debug, PartialEq, Eq)]
@@ -33,31 +37,24 @@ pub struct Truncate;
 const NAMES: &'static [&'static str] = &["value"];
 
 impl RowSpec for Truncate {
-    ghost use Rattle.std.specs.Prelude.{false, map};
-    ghost use Rattle.rowsample.specs.Functions.{truncates, truncates_is_lawful};
+    ghost use Rattle.rowsample.specs.Functions.{false, texts_of, truncates, truncates_is_lawful};
     ghost use Rattle.rowsample.specs.declared.truncate.TheConstants.{NAMES as names};
 
     type Options = TruncateOptions;
 
-    type Form = NoForm;
-
     type Evidence = bool;
 
-    const ARG_NAMES: &'static [&'static str] = NAMES;
+    const ARG_NAMES: rowplan::Texts = rowplan::Texts(NAMES);
+
+    ghost ARG_NAMES = { texts_of names };
 
     const INFALLIBLE: bool = false;
 
     ghost INFALLIBLE = { false };
 
-    ghost names = { map (λ name. name.now) names.now };
-
     ghost law = { λ o t. truncates o.ticks t };
 
     ghost lawful = { λ o t. truncates_is_lawful o.ticks t };
-
-    fn names_of_arguments() -> &'static [&'static str] {
-        Self::ARG_NAMES
-    }
 }
 
 impl RowFn for Truncate {

@@ -11,8 +11,8 @@ use std::alloc::{AllocError, Global};
 
 /// Refuses another number of columns than the function has, and then the first column of another length.
 pub(super) fn check_arguments<F: RowSpec>(args: &ExecutionArgs) -> Res<()>
-    ensures { MatchResult result (λ _. Fits (length F.names) args.now.row_count args.now.columns)
-        (Misfits (length F.names) args.now.row_count args.now.columns) }
+    ensures { MatchResult result (λ _. Fits (length F.ARG_NAMES) args.now.row_count args.now.columns)
+        (Misfits (length F.ARG_NAMES) args.now.row_count args.now.columns) }
 {
     let expected = F::names_of_arguments().len();
     let actual = args.num_inputs();

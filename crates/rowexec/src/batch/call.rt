@@ -54,7 +54,7 @@ pub fn row_fn_return_dtype<F: RowFn>(
 
 /// The rows at which no argument is null.
 pub(crate) fn full_mask<F: RowSpec>(args: &ExecutionArgs, ctx: ExecutionCtx) -> Res<Mask>
-    ensures { MarksFull (length F.names) args.now.columns args.now.row_count result }
+    ensures { MarksFull (length F.ARG_NAMES) args.now.columns args.now.row_count result }
 {
     check_arguments::<F>(args)?;
     let full = full_rows(args.columns(), args.row_count(), ctx)?;

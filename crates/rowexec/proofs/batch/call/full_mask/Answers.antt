@@ -12,4 +12,4 @@ returns g c =
     let n = c.args.args.now.row_count in
     let full = c.in_ok-full in
     let mask = c.execute_mask in
-    marks_full (length g.F.RowSpec.names) n c.row_count.result c.row_count-2.result columns c.columns.result.now full.full mask.result c.columns.ensures c.row_count.ensures c.row_count-2.ensures c.in_ok-check_arguments.ensures full.ensures.covers full.ensures.tells mask.ensures.mask mask.ensures.rows mask.ensures.tells
+    marks_full (length g.F.RowSpec.ARG_NAMES) n c.row_count.result c.row_count-2.result columns c.columns.result.now full.full mask.result c.columns.ensures c.row_count.ensures c.row_count-2.ensures c.in_ok-check_arguments.ensures full.ensures.covers full.ensures.tells mask.ensures.mask mask.ensures.rows mask.ensures.tells
