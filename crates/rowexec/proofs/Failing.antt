@@ -8,7 +8,7 @@ use Rattle.rowplan.specs.Outcomes.{FinishLaws, Outcome, done, failed}
 use Rattle.rowexec.specs.Evidence.{FailingRow, OutcomeFails, evidence_of, joined, joined_with}
 use Rattle.rowexec.specs.Rows.{Accepted, StrictRow, full_cells}
 use Rattle.rowexec.proofs.JoinedRows.{evidence_within}
-use Rattle.rowexec.proofs.Laws.{accepts_neutral, joins_lawfully, judges_lawfully}
+use Rattle.rowexec.proofs.Laws.{joins_lawfully, judges_lawfully}
 
 -- evidence that isn't accepted is that of an outcome that fails
 outcome_fails : {E : Type 0} (finish : E → Option ℕ) (neutral : E) (outcome : Outcome E) (code : ℕ) → finish (evidence_of neutral outcome) ≡ Some code → OutcomeFails finish outcome

@@ -7,19 +7,24 @@ use Rattle.colbase.specs.Arrays.{Array, len, row, rows}
 use Rattle.coltypes.specs.Cell.{Cell}
 use Rattle.colbase.specs.Selects.{Filters}
 use Rattle.coltypes.specs.Keep.{keep, place, trues}
-use Rattle.coltypes.specs.LogicalType.{LogicalType}
 use Rattle.coltypes.specs.declared.fault.Fault.{Fault}
+use Rattle.coltypes.specs.declared.fault.Fault.TheVariants.{Row}
+use Rattle.coltypes.specs.declared.fault.RowError.{RowError}
 use Rattle.rowtypes.specs.Rows.{DecodeFails, FirstUnread}
 use Rattle.rowplan.specs.Law.{RowLaw}
 use Rattle.rowexec.specs.Reads.{ReadFails, UnreadAt}
-use Rattle.rowexec.specs.Evidence.{EvidenceFails, RowsFail}
+use Rattle.rowloops.specs.Domain.{filtered_rows}
+use Rattle.rowexec.specs.Evidence.{EvidenceFails}
+use Rattle.rowexec.specs.RowRuns.{ColumnOver, Decides, FullAt, RanOver, RejectedOver}
+use Rattle.rowloops.specs.declared.attempt.Attempt.{Attempt}
 use Rattle.rowexec.specs.Rows.{Accepted, EachHasRows, full_cells, types_of, with_cell}
-use Rattle.rowexec.specs.Selections.{FilteredFrom}
-use Rattle.rowexec.specs.Visits.{CallFails, FilteredColumn, FullAt, RanRows, ValidColumn, VisitFails}
+use Rattle.rowexec.specs.Selections.{FilteredFrom, MarksFullRows}
+use Rattle.rowexec.specs.Visits.{CallFails, RunsSteps, ValidColumn}
+use Rattle.rowexec.proofs.Deciding.{decided_run, decided_steps}
+use Rattle.rowexec.proofs.Domains.{full_row_over, rejected_rows}
 use Rattle.rowexec.proofs.JoinedRows.{joined_marked}
-use Rattle.rowexec.proofs.Reading.{full_at}
+use Rattle.rowexec.proofs.Reading.{full_at, full_selected}
 use Rattle.rowloops.proofs.SetPlaces.{place_of, place_within}
-use Rattle.rowexec.proofs.Unread.{ran_weaker}
 
 pub rows_at : (n : ℕ) (arrays : List Array) (i : ℕ) (d : Array) → EachHasRows n arrays → i < length arrays → len (get_or arrays i d) ≡ n
 rows_at n [] i d r h = absurd (omega arith)
@@ -90,13 +95,9 @@ place_marked (true ∷ bits) zero h = refl
 place_marked (true ∷ bits) (suc i) h = place_marked bits i (omega arith)
 place_marked (false ∷ bits) i h = place_marked bits i h
 
--- the marks are true exactly at the rows at which no argument is null
-abbrev pub MarksFull : List Bool → List Array → Type 0
-MarksFull marks columns = (i : ℕ) → i < length marks → bit marks i ≡ is_some (full_cells columns i)
-
 -- each row of the filtered columns is full
-pub full_kept : (marks : List Bool) (olds news : List Array) → EachHasRows (length marks) olds → MarksFull marks olds → FilteredFrom marks olds news → (i : ℕ) → i < trues marks → FullAt i news
-full_kept marks olds news n m h i k = full_at (trues marks) i news (rows_kept marks olds news n h) k (ap is_some (cells_kept marks olds news i n h k) ∙ sym (m (place marks i) (place_within marks i k)) ∙ place_marked marks i k)
+pub full_kept : (marks : List Bool) (olds news : List Array) → EachHasRows (length marks) olds → MarksFullRows olds (length marks) marks → FilteredFrom marks olds news → (i : ℕ) → i < trues marks → FullAt i news
+full_kept marks olds news n m h i k = full_at (trues marks) i news (rows_kept marks olds news n h) k (ap is_some (cells_kept marks olds news i n h k) ∙ sym (m.each (place marks i) (place_within marks i k)) ∙ place_marked marks i k)
 
 unread_kept : (marks : List Bool) (reads : ℕ → Cell → Type 0) (k : ℕ) (olds news : List Array) (j : ℕ) → FilteredFrom marks olds news → FirstUnread reads k news j → UnreadAt reads k olds j
 unread_kept marks reads k [] [] j h p = p
@@ -111,38 +112,39 @@ fails_kept marks reads k olds news h e (inl m) = inl m
 fails_kept marks reads k olds news h e (inr p) = inr (record { place = p.place; is = p.is; unread = unread_kept marks reads k olds news p.place h p.first })
 
 -- the values of the filtered columns, each at its own row
-pub values_kept : {E : Type 0} (law : RowLaw E) (marks : List Bool) (olds news : List Array) → EachHasRows (length marks) olds → MarksFull marks olds → FilteredFrom marks olds news → (a : Array) → FilteredColumn law news marks a → ValidColumn law olds (length marks) a
+pub values_kept : {E : Type 0} (law : RowLaw E) (marks : List Bool) (olds news : List Array) → EachHasRows (length marks) olds → MarksFullRows olds (length marks) marks → FilteredFrom marks olds news → (a : Array) → ColumnOver law news (filtered_rows marks) a → ValidColumn law olds (length marks) a
 values_kept law marks olds news n m h a f = record {
   stored = f.stored;
   counted = f.counted;
   each = λ i cells k e.
-      let from = place_of marks i (m i k ∙ ap is_some e) in
+      let from = place_of marks i (m.each i k ∙ ap is_some e) in
       let Done : ℕ → Type 0 = λ r. Accepted law cells (row a r) in
-      subst Done from.2 (f.each from.0 cells from.1 (cells_kept marks olds news from.0 n h from.1 ∙ ap (full_cells olds) from.2 ∙ e));
+      subst Done from.2 (full_row_over law news (filtered_rows marks) a f from.0 cells from.1 refl (cells_kept marks olds news from.0 n h from.1 ∙ ap (full_cells olds) from.2 ∙ e));
   read = λ i cells k e.
-      let from = place_of marks i (m i k ∙ ap is_some e) in
+      let from = place_of marks i (m.each i k ∙ ap is_some e) in
       f.read from.0 cells from.1 (cells_kept marks olds news from.0 n h from.1 ∙ ap (full_cells olds) from.2 ∙ e);
 }
 
 -- a failure of the filtered columns is one of the full rows
-pub evidence_kept : {E : Type 0} (law : RowLaw E) (marks : List Bool) (olds news : List Array) → EachHasRows (length marks) olds → MarksFull marks olds → FilteredFrom marks olds news
-    → (e : Fault) → RowsFail law news (trues marks) e → RowsFail law olds (length marks) e
-evidence_kept {E} law marks olds news n m h e f =
-    let Fails : E → Type 0 = λ v. EvidenceFails law.deferred law.finish v e in
-    subst Fails (joined_marked law.join law.neutral law.meaning marks (full_cells olds) (full_cells news) m (λ j k. cells_kept marks olds news j n h k)) f
+pub rejected_kept : {E : Type 0} (law : RowLaw E) (marks : List Bool) (olds news : List Array) → EachHasRows (length marks) olds → MarksFullRows olds (length marks) marks → FilteredFrom marks olds news
+    → (error : RowError) → RejectedOver law news (filtered_rows marks) error → CallFails law olds (length marks) (Row error)
+rejected_kept {E} law marks olds news n m h error rejected =
+    let Fails : E → Type 0 = λ v. EvidenceFails law.deferred law.finish v (Row error) in
+    let each : (i : ℕ) → i < trues marks → true ≡ is_some (full_cells news i) = full_selected news (trues marks) (full_kept marks olds news n m h) in
+    inr (subst Fails (joined_marked law.join law.neutral law.meaning marks (full_cells olds) (full_cells news) m.each (λ j k. cells_kept marks olds news j n h k)) (rejected_rows law news (filtered_rows marks) error each rejected))
 
-module _ {E : Type 0} (law : List LogicalType → RowLaw E) where
-  -- what a run of the filtered columns answers
-  pub ran_kept : (told types : List LogicalType) (marks : List Bool) (olds news : List Array) (answer : Result Array Fault) (prepares steps : ℕ) → told ≡ types → EachHasRows (length marks) olds → MarksFull marks olds → FilteredFrom marks olds news
-      → RanRows (trues marks) (FilteredColumn (law told) news marks) (VisitFails (law told) news (trues marks)) answer prepares steps
-      → RanRows (trues marks) (ValidColumn (law types) olds (length marks)) (CallFails (law types) olds (length marks)) answer prepares steps
-  ran_kept told types marks olds news answer prepares steps same n m h ran =
-      let own = law types in
-      let Old : Fault → Type 0 = VisitFails own news (trues marks) in
-      let New : Fault → Type 0 = CallFails own olds (length marks) in
-      let fails : (e : Fault) → Old e → New e = λ e d. elim d [
-        | inl f ↦ inl (fails_kept marks own.arguments.reads 0 olds news h e f)
-        | inr f ↦ inr (evidence_kept own marks olds news n m h e f)
-      ] in
-      let Told : List LogicalType → Type 0 = λ ts. RanRows (trues marks) (FilteredColumn (law ts) news marks) (VisitFails (law ts) news (trues marks)) answer prepares steps in
-      ran_weaker (trues marks) (FilteredColumn own news marks) (ValidColumn own olds (length marks)) Old New answer prepares steps (values_kept own marks olds news n m h) fails (subst Told same ran)
+-- a run of the filtered columns, as one of the call
+pub filtered_run : {E : Type 0} (law : RowLaw E) (olds : List Array) (n : ℕ) (news : List Array) (marks : List Bool) (told : Result (Option Attempt) Fault) (answer : Result (Option Array) Fault) (told_prepares told_steps prepares steps : ℕ)
+    → Decides told answer → prepares ≡ told_prepares → steps ≡ told_steps → EachHasRows n olds → MarksFullRows olds n marks → FilteredFrom marks olds news
+    → RanOver law news (filtered_rows marks) told told_prepares told_steps → RunsSteps law olds n (trues marks) 1 answer prepares steps
+filtered_run law olds n news marks told answer told_prepares told_steps prepares steps decides p s rows full from ran =
+    let Rows : ℕ → Type 0 = λ k. EachHasRows k olds in
+    let Full : ℕ → Type 0 = λ k. MarksFullRows olds k marks in
+    let Of : ℕ → Type 0 = λ k. RunsSteps law olds k (trues marks) 1 answer prepares steps in
+    let here = subst Rows (sym full.counted) rows in
+    let marked = subst Full (sym full.counted) full in
+    let m = length marks in
+    subst Of full.counted
+    (decided_steps law olds m (trues marks) (trues marks) answer prepares steps refl
+    (decided_run law news (filtered_rows marks) (ValidColumn law olds m) (CallFails law olds m) told answer told_prepares told_steps prepares steps decides p s (inl refl)
+    (values_kept law marks olds news here marked from) (rejected_kept law marks olds news here marked from) (λ e h. inl (fails_kept marks law.arguments.reads 0 olds news from e h)) ran))

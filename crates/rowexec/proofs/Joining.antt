@@ -21,7 +21,7 @@ pub record RowOutcome {E : Type 0} (meaning : List Cell → Outcome E) (cells : 
   pub is : row ≡ Some cell
 
 -- a join stays one where each value that is at a selected index by P is there by Q
-selected_map : {E : Type 0} (join : E → E → E) (neutral : E) (selected : ℕ → Bool) (P Q : ℕ → E → Type 0) (n : ℕ) (total : E)
+pub selected_map : {E : Type 0} (join : E → E → E) (neutral : E) (selected : ℕ → Bool) (P Q : ℕ → E → Type 0) (n : ℕ) (total : E)
     → ((i : ℕ) (v : E) → i < n → selected i ≡ true → P i v → Q i v) → Joined join neutral selected P n total → Joined join neutral selected Q n total
 selected_map join neutral selected P Q n total h none = none
 selected_map join neutral selected P Q n total h (more {n = m} j s at) = more (selected_map join neutral selected P Q m _ (λ i v lt. h i v (omega arith)) j) s (h m _ (omega arith) s at)

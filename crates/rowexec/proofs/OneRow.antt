@@ -1,7 +1,7 @@
 -- One row that stands for all rows.
-use Rattle.std.proofs.Common.{◌≡◌, ◌∙◌, ℕ, ◌<◌, Bool, true, false, ◌&&◌, arith, List, [], ◌∷◌, ◌≤◌, Option, None, Some, Result, Ok, Err, refl, ap, subst, sym}
+use Rattle.std.proofs.Common.{◌≡◌, ◌∙◌, ℕ, ◌<◌, Bool, true, false, ◌&&◌, arith, ◌≤◌, List, [], ◌∷◌, Option, None, Some, Result, Ok, Err, inl, inr, refl, ap, subst, sym}
 use Rattle.std.proofs.lemmas.Bool.Decides.{nat_tests}
-use Rattle.std.specs.Prelude.{IfErr, IfOk, MatchResult, cond, is_some, nat_lt, option_map}
+use Rattle.std.specs.Prelude.{cond, is_some, nat_lt, option_map}
 use Rattle.bitlane.specs.Evidence.{JoinLaws}
 use Rattle.colbase.specs.Arrays.{Array, constant, constant_cell, dtype, extension, len, masked, row}
 use Rattle.coltypes.specs.Cell.{Cell}
@@ -9,7 +9,8 @@ use Rattle.coltypes.specs.CellOf.{cell_of}
 use Rattle.colbase.specs.Parts.{own_validity}
 use Rattle.coltypes.specs.Valid.{valid_at, validity_kind}
 use Rattle.coltypes.specs.declared.fault.Fault.{Fault}
-use Rattle.coltypes.specs.declared.fault.Fault.TheVariants.{Memory}
+use Rattle.coltypes.specs.declared.fault.Fault.TheVariants.{Row}
+use Rattle.coltypes.specs.declared.fault.RowError.{RowError}
 use Rattle.coltypes.specs.declared.validity.Validity.{Validity}
 use Rattle.coltypes.specs.declared.validity.Validity.TheVariants as v
 use Rattle.rowtypes.specs.Rows.{decoded_lengths, each_length, shown_from}
@@ -17,15 +18,17 @@ use Rattle.rowelems.specs.Argument.{is_length, length_unless}
 use Rattle.rowelems.specs.Shown.{batch_value}
 use Rattle.rowplan.specs.Law.{Lawful, RowLaw}
 use Rattle.rowexec.specs.Counts.{each_one_value, is_no_nulls, is_one_value, one_row, some_column}
-use Rattle.rowexec.specs.Evidence.{EvidenceFails, RowsFail}
-use Rattle.rowexec.specs.Rows.{Accepted, full_cells, with_cell}
-use Rattle.rowexec.specs.Visits.{DenseColumn, RanRows}
+use Rattle.rowloops.specs.Domain.{all_rows}
+use Rattle.rowexec.specs.Evidence.{EvidenceFails}
+use Rattle.rowexec.specs.RowRuns.{ColumnOver, RejectedOver}
+use Rattle.rowexec.specs.Rows.{Accepted, EachHasRows, full_cells, with_cell}
+use Rattle.rowexec.specs.Visits.{CallFails, RepeatsRow, RunsSteps, ValidColumn}
+use Rattle.rowexec.proofs.Deciding.{failed_run, steps_some}
+use Rattle.rowexec.proofs.Domains.{rejected_rows}
 use Rattle.rowexec.proofs.Batches.{both_are, both_parts}
 use Rattle.rowexec.proofs.FullRows.{picked}
 use Rattle.rowexec.proofs.JoinedRows.{joined_first}
 use Rattle.rowexec.proofs.Laws.{joins_lawfully}
-use Rattle.rowexec.proofs.Results.{err_then, match_result, three_then}
-use Rattle.rowloops.proofs.Results.{ok_then}
 
 no_null_at : (w : Validity) (i : ℕ) → is_no_nulls (validity_kind w) ≡ true → valid_at w i ≡ true
 no_null_at v.NonNullable i h = refl
@@ -103,60 +106,29 @@ some_same : (o p : Option (List Cell)) (xs ys : List Cell) → o ≡ Some xs →
 some_same o p xs ys e f h = cc (e, f, h)
 
 -- a column whose rows are all the first row of the values of one row
-pub repeats : {E : Type 0} (law : RowLaw E) (columns : List Array) (n : ℕ) (one a : Array) → each_one_value columns ≡ true → DenseColumn law columns 1 one → dtype a ≡ dtype one → len a ≡ n → ((i : ℕ) → row a i ≡ row one 0) → DenseColumn law columns n a
+pub repeats : {E : Type 0} (law : RowLaw E) (columns : List Array) (n : ℕ) (one a : Array) → each_one_value columns ≡ true → ColumnOver law columns (all_rows 1) one → dtype a ≡ dtype one → len a ≡ n → ((i : ℕ) → row a i ≡ row one 0) → ValidColumn law columns n a
 repeats law columns n one a h d t k rs =
     let same = each_row columns h in
     let first : 0 < 1 = omega arith in
+    let cells_are : (i : ℕ) (cells : List Cell) → full_cells columns i ≡ Some cells → cells ≡ same.cells = λ i cells e. some_same (full_cells columns i) (full_cells columns 0) cells same.cells e (same.each 0) (same.each i ∙ sym (same.each 0)) in
     record {
       stored = d.stored ∙ ap Some (sym t);
       counted = k;
-      each = λ i b. moved law (shown_from law.arguments.shown 0 columns 0) (shown_from law.arguments.shown 0 columns i) (row one 0) (row a i) (d.full 0 same.cells (same.each 0) ∙ sym (d.full i same.cells (same.each i))) (sym (rs i)) (d.each 0 first);
-      full = d.full;
-      read = λ i cells b h.
-          let first_cells = some_same (full_cells columns i) (full_cells columns 0) cells same.cells h (same.each 0) (same.each i ∙ sym (same.each 0)) in
-          d.read 0 cells first (same.each 0 ∙ ap Some (sym first_cells));
+      each = λ i cells b e. moved law (shown_from law.arguments.shown 0 columns 0) cells (row one 0) (row a i) (d.full 0 same.cells (same.each 0) ∙ sym (cells_are i cells e)) (sym (rs i)) (d.each 0 first refl);
+      read = λ i cells b e. d.read 0 cells first (same.each 0 ∙ ap Some (sym (cells_are i cells e)));
     }
 
 -- a failure of the one row is one of all rows
-pub evidence_repeats : {E : Type 0} {in_range : E → Type 0} {join : E → E → E} {neutral : E} {arity : ℕ} {infallible : Bool} (law : RowLaw E) (columns : List Array) (n : ℕ) → Lawful law arity infallible in_range join neutral → JoinLaws E in_range join neutral → each_one_value columns ≡ true → 0 < n
-    → (e : Fault) → RowsFail law columns 1 e → RowsFail law columns n e
-evidence_repeats {E} {in_range} law columns n lawful laws h few e f =
-    let same = each_row columns h in
-    let Fails : E → Type 0 = λ v. EvidenceFails law.deferred law.finish v e in
-    subst Fails (joined_first in_range law.join law.neutral law.meaning (full_cells columns) same.cells (joins_lawfully lawful laws) (lawful.evidence_in_range same.cells) same.each n few) f
+pub rejected_repeats : {E : Type 0} {in_range : E → Type 0} {join : E → E → E} {neutral : E} {arity : ℕ} {infallible : Bool} (law : RowLaw E) (columns : List Array) (n : ℕ) → Lawful law arity infallible in_range join neutral → JoinLaws E in_range join neutral → EachHasRows n columns → one_row n columns ≡ true
+    → (error : RowError) → RejectedOver law columns (all_rows 1) error → CallFails law columns n (Row error)
+rejected_repeats {E} {in_range} law columns n lawful laws rows one error rejected =
+    let same = each_row columns (each_of_one n columns one) in
+    let Fails : E → Type 0 = λ v. EvidenceFails law.deferred law.finish v (Row error) in
+    let each : (i : ℕ) → i < 1 → true ≡ is_some (full_cells columns i) = λ i h. ap is_some (sym (same.each i)) in
+    inr (subst Fails (joined_first in_range law.join law.neutral law.meaning (full_cells columns) same.cells (joins_lawfully lawful laws) (lawful.evidence_in_range same.cells) same.each n (some_rows n columns one)) (rejected_rows law columns (all_rows 1) error each rejected))
 
--- the answer of all rows, where that of one row is given
-pub ran_repeated : {E : Type 0} (law : RowLaw E) (columns : List Array) (n : ℕ) (First Fails : Fault → Type 0) (told : Result Array Fault) (one : Array) (given : Result Array Fault) (prepares steps : ℕ) → each_one_value columns ≡ true → Fails Memory → RanRows 1 (DenseColumn law columns 1) First told prepares steps → told ≡ Ok one → IfOk given (λ a. dtype a ≡ dtype one) → IfOk given (λ a. len a ≡ n) → IfOk given (λ a. (i : ℕ) → row a i ≡ row one 0) → IfErr given (λ e. e ≡ Memory) → RanRows 1 (DenseColumn law columns n) Fails given prepares steps
-ran_repeated law columns n First Fails told one given prepares steps h wants ran is t k rs m =
-    let One : Array → Type 0 = DenseColumn law columns 1 in
-    let All : Array → Type 0 = DenseColumn law columns n in
-    let Told : Result Array Fault → Type 0 = λ r. MatchResult r One First in
-    let Counts : Result Array Fault → Type 0 = λ r. IfOk r (λ a. 1 ≤ steps) in
-    let first : One one = subst Told is ran.answered in
-    let least : 1 ≤ steps = subst Counts is ran.least in
-    record {
-      answered = match_result given All Fails
-          (three_then given (λ a. dtype a ≡ dtype one) (λ a. len a ≡ n) (λ a. (i : ℕ) → row a i ≡ row one 0) All t k rs (λ a p q r. repeats law columns n one a h first p q r))
-          (err_then given (λ e. e ≡ Memory) Fails m (λ e p. subst Fails (sym p) wants));
-      prepared = ran.prepared;
-      most = ran.most;
-      least = ok_then (λ a. len a ≡ n) (λ a. 1 ≤ steps) given (λ a p. least) k;
-    }
-
-pub ran_failed : (n : ℕ) (One All : Array → Type 0) (Fails : Fault → Type 0) (told : Result Array Fault) (e : Fault) (given : Result Array Fault) (prepares steps : ℕ) → RanRows n One Fails told prepares steps → told ≡ Err e → given ≡ Err e → RanRows n All Fails given prepares steps
-ran_failed n One All Fails told e given prepares steps ran is same =
-    let Told : Result Array Fault → Type 0 = λ r. MatchResult r One Fails in
-    let Given : Result Array Fault → Type 0 = λ r. MatchResult r All Fails in
-    let Counts : Result Array Fault → Type 0 = λ r. IfOk r (λ a. n ≤ steps) in
-    let fails : Fails e = subst Told is ran.answered in
-    record {
-      answered = subst Given (sym same) fails;
-      prepared = ran.prepared;
-      most = ran.most;
-      least = subst Counts (sym same) tt;
-    }
-
-pub ran_same : (n : ℕ) (Gives : Array → Type 0) (Fails : Fault → Type 0) (told given : Result Array Fault) (prepares steps : ℕ) → given ≡ told → RanRows n Gives Fails told prepares steps → RanRows n Gives Fails given prepares steps
-ran_same n Gives Fails told given prepares steps e ran =
-    let Same : Result Array Fault → Type 0 = λ r. RanRows n Gives Fails r prepares steps in
-    subst Same (sym e) ran
+-- the run of the one row, whose value is repeated
+pub one_repeated : {E : Type 0} (law : RowLaw E) (columns : List Array) (n : ℕ) (one : Array) (given answer : Result (Option Array) Fault) (prepares steps : ℕ) → each_one_value columns ≡ true → ColumnOver law columns (all_rows 1) one → answer ≡ given → RepeatsRow one n given → prepares ≤ 1 → steps ≤ 1 → 1 ≤ steps → RunsSteps law columns n 1 1 answer prepares steps
+one_repeated law columns n one (Ok (Some a)) answer prepares steps h over is repeated p m l = steps_some law columns n 1 1 answer a prepares steps is (repeats law columns n one a h over repeated.0 repeated.1 repeated.2) p m l
+one_repeated law columns n one (Ok None) answer prepares steps h over is repeated p m l = absurd repeated
+one_repeated law columns n one (Err e) answer prepares steps h over is repeated p m l = failed_run law columns n 1 1 answer e prepares steps is (inl (inl repeated)) p m

@@ -1,6 +1,6 @@
 -- Which of the cells that the arguments show at a row are read.
-use Rattle.std.proofs.Common.{◌≡◌, ◌∙◌, ℕ, suc, ◌<◌, Bool, true, false, List, [], ◌∷◌, Option, None, Some, inl, inr, ap, refl, sym, subst, arith}
-use Rattle.std.specs.Prelude.{◌↔◌, IsSome, is_some, nat_lt}
+use Rattle.std.proofs.Common.{◌≡◌, ◌∙◌, ◌≢◌, ℕ, suc, ◌<◌, Bool, true, false, List, [], ◌∷◌, Option, None, Some, inl, inr, ap, refl, sym, subst, arith}
+use Rattle.std.specs.Prelude.{◌↔◌, ◌⊎◌, IsSome, is_some, nat_lt}
 use Rattle.rowtypes.proofs.Lengths.{has_row}
 use Rattle.colbase.specs.Arrays.{Array, constant_cell, len, row}
 use Rattle.coltypes.specs.Cell.{Cell}
@@ -15,16 +15,10 @@ use Rattle.rowplan.specs.declared.batch_plan.RowPolicy.TheVariants.{Dense}
 use Rattle.rowexec.specs.Counts.{runs_valid_only}
 use Rattle.rowexec.specs.Reads.{ReadsFull}
 use Rattle.rowexec.specs.Rows.{EachHasRows, full_cells, with_cell}
-use Rattle.rowexec.specs.Visits.{FullAt, MayRunAll}
+use Rattle.rowexec.specs.RowRuns.{EachFull, FullAt, ReadsBy}
+use Rattle.rowloops.specs.Domain.{Domain}
 use Rattle.rowexec.proofs.FullRows.{constant_row, picked, shown_at, split}
 use Rattle.rowexec.proofs.Known.{value_must_be_read}
-
--- where a visit that writes one value a row runs all rows, the elements are dense safe
-dense_safe_of : (policy : RowPolicy) (safe infallible : Bool) → policy ≡ Dense → policy ≡ owned_policy safe infallible → safe ≡ true
-dense_safe_of policy true infallible r e = refl
-dense_safe_of policy false infallible r e =
-    let k : Dense ≡ owned_policy false infallible = sym r ∙ e in
-    absurd (cc)
 
 shown_read : (reads : Cell → Type 0) (shown : Array → ℕ → Cell) → ShowsConstant shown → ShowsRow shown → (a : Array) (i : ℕ) (o : Option Cell) → row a i ≡ o → ReadsAll reads a → i < len a → IsSome o → reads (shown a i)
 shown_read reads shown p q a i None e r h s = absurd (cc)
@@ -38,11 +32,6 @@ full_reads reads shown p q k (a ∷ arrays) i r f = (shown_read (reads k) (shown
 -- so are cells that a decoded row shows there
 pub full_row_reads : (reads : ℕ → Cell → Type 0) (shown : ℕ → Array → ℕ → Cell) → ((k : ℕ) → ShowsConstant (shown k)) → ((k : ℕ) → ShowsRow (shown k)) → (columns : List Array) (i : ℕ) (cells : List Cell) → cells ≡ shown_from shown 0 columns i → ReadsAllFrom reads 0 columns → FullAt i columns → ReadsFrom reads 0 cells
 full_row_reads reads shown p q columns i cells e r f = subst (λ (c : List Cell). ReadsFrom reads 0 c) (sym e) (full_reads reads shown p q 0 columns i r f)
-
--- where all rows may run, the cells that a decoded row shows are read, if they are by dense safe elements
-pub row_reads : (policy : RowPolicy) (safe infallible : Bool) (reads : ℕ → Cell → Type 0) (shown : ℕ → Array → ℕ → Cell) → ((k : ℕ) → ShowsConstant (shown k)) → ((k : ℕ) → ShowsRow (shown k)) → (n : ℕ) (columns : List Array) (i : ℕ) (cells : List Cell) → policy ≡ owned_policy safe infallible → (safe ≡ true → ReadsFrom reads 0 cells) → cells ≡ shown_from shown 0 columns i → ReadsAllFrom reads 0 columns → i < n → MayRunAll policy n columns → ReadsFrom reads 0 cells
-row_reads policy safe infallible reads shown p q n columns i cells is dense e r h (inl all) = dense (dense_safe_of policy safe infallible all is)
-row_reads policy safe infallible reads shown p q n columns i cells is dense e r h (inr full) = full_row_reads reads shown p q columns i cells e r (full i h)
 
 both_some : (o : Option Cell) (rest : Option (List Cell)) → is_some (with_cell o rest) ≡ true → IsSome o × (is_some rest ≡ true)
 both_some (Some c) (Some cells) h = (refl, refl)
@@ -69,32 +58,33 @@ full_has_cells i (a ∷ arrays) h = are_some (row a i) (full_cells arrays i) h.1
 pub full_selected : (columns : List Array) (n : ℕ) → ((i : ℕ) → i < n → FullAt i columns) → (i : ℕ) → i < n → true ≡ is_some (full_cells columns i)
 full_selected columns n full i h = sym (full_has_cells i columns (full i h))
 
--- a visit with evidence runs all rows only where each of them is full
-pub deferred_runs : (policy : RowPolicy) (safe infallible : Bool) (n : ℕ) (columns : List Array) → policy ≡ deferred_policy safe infallible → MayRunAll policy n columns → (i : ℕ) → i < n → FullAt i columns
-deferred_runs policy safe infallible n columns is (inl all) = absurd (never_dense safe infallible (sym all ∙ is))
-  where
-    never_dense : (safe infallible : Bool) → Dense ≡ deferred_policy safe infallible → ⊥
-    never_dense true true h = cc
-    never_dense true false h = cc
-    never_dense false infallible h = cc
-deferred_runs policy safe infallible n columns is (inr full) = full
-
--- where it may run all rows on what the columns show under nulls, the elements are dense safe
-pub retry_safe : (policy : RowPolicy) (safe infallible : Bool) → runs_valid_only policy ≡ false → policy ≡ deferred_policy safe infallible → safe ≡ true
-retry_safe policy true infallible r e = refl
-retry_safe policy false infallible r e =
+-- where the policy has rows run that aren't full, the elements are dense safe
+owned_safe : (policy : RowPolicy) (safe infallible : Bool) → runs_valid_only policy ≡ false → policy ≡ owned_policy safe infallible → safe ≡ true
+owned_safe policy true infallible r e = refl
+owned_safe policy false infallible r e =
     let k : false ≡ true = sym r ∙ ap runs_valid_only e in
     absurd (cc)
 
--- a visit without evidence that may run all rows is dense
-pub owned_dense : (policy : RowPolicy) (safe infallible : Bool) → runs_valid_only policy ≡ false → policy ≡ owned_policy safe infallible → policy ≡ Dense
-owned_dense policy true true r e = e
-owned_dense policy true false r e =
+deferred_safe : (policy : RowPolicy) (safe infallible : Bool) → runs_valid_only policy ≡ false → policy ≡ deferred_policy safe infallible → safe ≡ true
+deferred_safe policy true infallible r e = refl
+deferred_safe policy false infallible r e =
     let k : false ≡ true = sym r ∙ ap runs_valid_only e in
     absurd (cc)
-owned_dense policy false infallible r e =
-    let k : false ≡ true = sym r ∙ ap runs_valid_only e in
-    absurd (cc)
+
+-- so the rows that run are read
+pub owned_reads : (policy : RowPolicy) (safe infallible : Bool) (columns : List Array) (domain : Domain) → policy ≡ owned_policy safe infallible → (runs_valid_only policy ≡ false) ⊎ EachFull columns domain → ReadsBy safe columns domain
+owned_reads policy safe infallible columns domain e (inl r) = inl (owned_safe policy safe infallible r e)
+owned_reads policy safe infallible columns domain e (inr full) = inr full
+
+pub deferred_reads : (policy : RowPolicy) (safe infallible : Bool) (columns : List Array) (domain : Domain) → policy ≡ deferred_policy safe infallible → (runs_valid_only policy ≡ false) ⊎ EachFull columns domain → ReadsBy safe columns domain
+deferred_reads policy safe infallible columns domain e (inl r) = inl (deferred_safe policy safe infallible r e)
+deferred_reads policy safe infallible columns domain e (inr full) = inr full
+
+-- a visit with evidence never has all rows run whatever their nulls
+pub never_dense : (policy : RowPolicy) (safe infallible : Bool) → policy ≡ deferred_policy safe infallible → policy ≢ Dense
+never_dense policy true true e h = cc (e, h)
+never_dense policy true false e h = cc (e, h)
+never_dense policy false infallible e h = cc (e, h)
 
 -- a cell of a row that isn't null is one that must be read: it is the value of a batch constant, or stands in a row that is there
 cell_read : (reads : Cell → Type 0) (a : Array) (i : ℕ) (c : Cell) (o : Option Cell) → batch_value a ≡ o → IsWithin i (length_unless o (len a)) → ReadsAll reads a → row a i ≡ Some c → reads c

@@ -1,14 +1,6 @@
 -- What follows of answers.
 use Rattle.std.proofs.Common.{◌≡◌, subst}
-use Rattle.std.specs.Prelude.{Option, None, Some, Result, Ok, Err, IfSome, IfOk, IfErr, MatchResult}
-
-pub match_result : {A E : Type 0} (r : Result A E) (P : A → Type 0) (Q : E → Type 0) → IfOk r P → IfErr r Q → MatchResult r P Q
-match_result (Ok x) P Q h k = h
-match_result (Err e) P Q h k = k
-
-pub three_then : {A E : Type 0} (r : Result A E) (P Q R S : A → Type 0) → IfOk r P → IfOk r Q → IfOk r R → ((x : A) → P x → Q x → R x → S x) → IfOk r S
-three_then (Ok x) P Q R S p q s f = f x p q s
-three_then (Err e) P Q R S p q s f = tt
+use Rattle.std.specs.Prelude.{Option, None, Some, Result, Ok, Err, IfSome, IfErr}
 
 pub err_then : {A E : Type 0} (r : Result A E) (P Q : E → Type 0) → IfErr r P → ((e : E) → P e → Q e) → IfErr r Q
 err_then (Ok x) P Q p f = tt

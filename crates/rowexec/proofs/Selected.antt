@@ -9,20 +9,17 @@ use Rattle.coltypes.specs.Keep.{trues}
 use Rattle.colbase.specs.Parts.{own_validity}
 use Rattle.coltypes.specs.Valid.{validity_kind}
 use Rattle.rowelems.specs.Shown.{batch_value}
-use Rattle.rowplan.specs.Law.{RowLaw}
 use Rattle.rowplan.specs.declared.batch_plan.RowPolicy.{RowPolicy}
 use Rattle.rowplan.specs.declared.batch_plan.RowPolicy.TheVariants.{Dense, DenseWithRetry, ValidOnly}
 use Rattle.rowexec.specs.Counts.{each_one_value, full_bits, is_no_nulls, is_one_value, most_prepares, one_row, policy_steps, retried, runs_valid_only, settled, some_column, steps_asked}
 use Rattle.rowexec.specs.Rows.{EachHasRows, full_cells, some_all_null}
-use Rattle.rowexec.specs.Selections.{Selected}
+use Rattle.rowexec.specs.RowRuns.{FullAt}
+use Rattle.rowexec.specs.Selections.{MarksFullRows, Selected}
 use Rattle.rowexec.specs.declared.batch.selection.Selection.{Selection}
-use Rattle.rowexec.specs.Visits.{DenseColumn, FullAt, MayRunAll, ValidColumn}
+use Rattle.rowexec.specs.Visits.{MayRunAll}
 use Rattle.rowexec.proofs.FullRows.{picked}
 use Rattle.rowexec.proofs.Batches.{both_parts}
 use Rattle.rowexec.proofs.OneRow.{value_of, value_row}
-
-pub runs_alike : {p q : RowPolicy} (n : ℕ) (columns : List Array) → q ≡ p → MayRunAll q n columns → MayRunAll p n columns
-runs_alike n columns e h = subst (λ x. MayRunAll x n columns) e h
 
 is_there : (o : Option Cell) (x : Cell) → o ≡ Some x → IsSome o
 is_there o x e = ap is_some e
@@ -45,21 +42,6 @@ one_full n columns r h i b =
     let p = both_parts (nat_lt 0 n) (some_column columns && each_one_value columns) h in
     let few : 0 < n = grind (arith, nat_tests, p.0) in
     values_full n i columns r (both_parts (some_column columns) (each_one_value columns) p.1).1 (omega (arith, few, b))
-
--- a column of all rows gives the rows without a null argument
-pub valid_column : {E : Type 0} (law : RowLaw E) (columns : List Array) (n : ℕ) (a : Array) → DenseColumn law columns n a → ValidColumn law columns n a
-valid_column law columns n a d = record {
-  stored = d.stored;
-  counted = d.counted;
-  each = λ i cells h k. record {
-    cell = (d.each i h).cell;
-    evidence = (d.each i h).evidence;
-    is = (d.each i h).is;
-    outcome_is = ap law.meaning (sym (d.full i cells k)) ∙ (d.each i h).outcome_is;
-    accepted = (d.each i h).accepted;
-  };
-  read = d.read;
-}
 
 full_is_some : (i : ℕ) (arrays : List Array) → FullAt i arrays → is_some (full_cells arrays i) ≡ true
 full_is_some i [] h = refl
@@ -120,8 +102,8 @@ pub steps_of_policy : (policy : RowPolicy) (accepted : Bool) (n : ℕ) (columns 
 steps_of_policy policy accepted n columns s o = rw s (rw o refl)
 
 -- the marked rows are the full ones
-pub trues_marked : (n : ℕ) (columns : List Array) (marks : List Bool) → length marks ≡ n → ((i : ℕ) → i < n → bit marks i ≡ is_some (full_cells columns i)) → trues marks ≡ trues (full_bits n columns)
-trues_marked n columns marks l h = ap trues (sym (marks_are (λ i. is_some (full_cells columns i)) n marks l h))
+pub trues_marked : (n : ℕ) (columns : List Array) (marks : List Bool) → MarksFullRows columns n marks → trues marks ≡ trues (full_bits n columns)
+trues_marked n columns marks full = ap trues (sym (marks_are (λ i. is_some (full_cells columns i)) n marks full.counted full.each))
 
 pub trues_empty : (n : ℕ) (columns : List Array) → ((i : ℕ) → i < n → is_some (full_cells columns i) ≡ false) → trues (full_bits n columns) ≡ 0
 trues_empty n columns h = trues_none (λ i. is_some (full_cells columns i)) n h
@@ -140,8 +122,8 @@ valid_steps Dense accepted n columns r = absurd (cc)
 valid_steps DenseWithRetry accepted n columns r = absurd (cc)
 valid_steps ValidOnly accepted n columns r = refl
 
-pub steps_of_marks : (policy : RowPolicy) (accepted : Bool) (n : ℕ) (columns : List Array) (marks : List Bool) → some_all_null columns ≡ false → one_row n columns ≡ false → runs_valid_only policy ≡ true → length marks ≡ n → ((i : ℕ) → i < n → bit marks i ≡ is_some (full_cells columns i)) → trues marks ≡ steps_asked policy accepted n columns
-steps_of_marks policy accepted n columns marks s o r l h = trues_marked n columns marks l h ∙ sym (valid_steps policy accepted n columns r) ∙ steps_of_policy policy accepted n columns s o
+pub steps_of_marks : (policy : RowPolicy) (accepted : Bool) (n : ℕ) (columns : List Array) (marks : List Bool) → some_all_null columns ≡ false → one_row n columns ≡ false → runs_valid_only policy ≡ true → MarksFullRows columns n marks → trues marks ≡ steps_asked policy accepted n columns
+steps_of_marks policy accepted n columns marks s o r full = trues_marked n columns marks full ∙ sym (valid_steps policy accepted n columns r) ∙ steps_of_policy policy accepted n columns s o
 
 pub no_steps : (policy : RowPolicy) (accepted : Bool) (n : ℕ) (columns : List Array) → some_all_null columns ≡ false → one_row n columns ≡ false → runs_valid_only policy ≡ true → ((i : ℕ) → i < n → is_some (full_cells columns i) ≡ false) → steps_asked policy accepted n columns ≡ 0
 no_steps policy accepted n columns s o r h = sym (steps_of_policy policy accepted n columns s o) ∙ valid_steps policy accepted n columns r ∙ trues_empty n columns h
@@ -171,8 +153,8 @@ pub unsettled_all : (policy : RowPolicy) (n : ℕ) (columns : List Array) → so
 unsettled_all policy n columns s (inl r) = unsettled policy n columns s (λ e f. absurd (cc (ap runs_valid_only r, e)))
 unsettled_all policy n columns s (inr full) = unsettled policy n columns s (λ e f. omega (arith, f, trues_full n columns full))
 
-pub unsettled_marks : (policy : RowPolicy) (n : ℕ) (columns : List Array) (marks : List Bool) → some_all_null columns ≡ false → length marks ≡ n → ((i : ℕ) → i < n → bit marks i ≡ is_some (full_cells columns i)) → 0 < trues marks → settled policy n columns ≡ false
-unsettled_marks policy n columns marks s l h m = unsettled policy n columns s (λ e f. omega (arith, m, ap trues (marks_are (λ i. is_some (full_cells columns i)) n marks l h)))
+pub unsettled_marks : (policy : RowPolicy) (n : ℕ) (columns : List Array) (marks : List Bool) → some_all_null columns ≡ false → MarksFullRows columns n marks → 0 < trues marks → settled policy n columns ≡ false
+unsettled_marks policy n columns marks s full m = unsettled policy n columns s (λ e f. omega (arith, m, trues_marked n columns marks full))
 
 pub unsettled_attempt : (policy : RowPolicy) (n : ℕ) (columns : List Array) → some_all_null columns ≡ false → policy ≡ DenseWithRetry → settled policy n columns ≡ false
 unsettled_attempt policy n columns s r = unsettled policy n columns s (λ e f. absurd (cc (ap runs_valid_only r, e)))
@@ -186,9 +168,8 @@ pub no_cells : (o : Option (List Cell)) → is_some o ≡ false → o ≡ None
 no_cells None h = refl
 no_cells (Some cells) h = absurd (cc)
 
-pub selected_at : (p q : RowPolicy) (m n : ℕ) (xs ys : List Array) (chosen : Selection) → p ≡ q → m ≡ n → xs ≡ ys → Selected p m xs chosen → Selected q n ys chosen
-selected_at p q m n xs ys chosen e f h s =
-    let ByPolicy : RowPolicy → Type 0 = λ x. Selected x n ys chosen in
-    let ByRows : ℕ → Type 0 = λ x. Selected p x ys chosen in
-    let ByColumns : List Array → Type 0 = λ x. Selected p m x chosen in
-    subst ByPolicy e (subst ByRows f (subst ByColumns h s))
+-- the choice, by a policy that is another's
+pub selected_by : {p q : RowPolicy} (n : ℕ) (columns : List Array) (chosen : Selection) → p ≡ q → Selected p n columns chosen → Selected q n columns chosen
+selected_by n columns chosen e s =
+    let ByPolicy : RowPolicy → Type 0 = λ x. Selected x n columns chosen in
+    subst ByPolicy e s

@@ -57,7 +57,7 @@ pub selected : (policy : RowPolicy) (n : ℕ) (columns : List Array) (full : Val
 selected policy n columns full s.One p o r t h = absurd h
 selected policy n columns full s.Attempt p o r t h = absurd h
 selected policy n columns full s.All p o r t h = (o, inr (λ i k. full_at n i columns r k (sym (t i k) ∙ h i k)))
-selected policy n columns full (s.Valid marks) p o r t h = (o, p, h.0, (λ i k. h.1 i k ∙ t i k), h.2)
+selected policy n columns full (s.Valid marks) p o r t h = (o, p, record { counted = h.0; each = λ i k. h.1 i k ∙ t i k }, h.2)
 selected policy n columns full s.Nothing p o r t h = (o, p, h.1, λ i k. sym (t i k) ∙ h.0 i k)
 
 -- what is selected is all rows: each is valid

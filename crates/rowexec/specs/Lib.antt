@@ -5,6 +5,7 @@ pub mod Counts
 pub mod Evidence
 pub mod Masks
 pub mod Reads
+pub mod RowRuns
 pub mod Rows
 pub mod Selections
 pub mod Visits

@@ -4,12 +4,12 @@ mod answer;
 mod arguments;
 mod call;
 mod counted;
-mod dense;
 mod finish;
 mod full_rows;
 mod one_row;
 mod plan;
 mod retry;
+mod run;
 mod selection;
 mod valid;
 

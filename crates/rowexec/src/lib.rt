@@ -1,9 +1,10 @@
-//! Execution of row functions over whole columns: the visitors that run one, the batch call around them, and the two forms in which
+//! Execution of row functions over whole columns: the visitor that runs one, the batch call around them, and the two forms in which
 //! programs take it, as a scalar function of an engine and as an engine.
 #![tactic(auto)]
 
 mod batch;
 mod engine;
+mod execution_args;
 mod visitor;
 mod vtable;
 

@@ -1,7 +1,8 @@
 pub mod Appended
 pub mod CheckedRows
-pub mod Infallible
+pub mod OverDomains
 pub mod Results
 pub mod SetPlaces
+pub mod Total
 pub mod Written
 pub mod WrittenJoins

@@ -1,6 +1,6 @@
 -- A column of the places that a loop wrote.
-use Rattle.std.proofs.Common.{◌≡◌, ◌∙◌, ℕ, ◌<◌, List, length, get_or, map, take, Option, Some, ap, sym, subst}
-use Rattle.std.specs.Prelude.{replicate, IsSome, is_some}
+use Rattle.std.proofs.Common.{◌≡◌, ◌∙◌, ℕ, ◌<◌, List, length, get_or, map, take, Some, ap, sym, subst}
+use Rattle.std.specs.Prelude.{replicate}
 use Rattle.std.proofs.lemmas.List.{length-replicate}
 use Rattle.colbase.specs.Arrays.{Array, column, len, row}
 use Rattle.coltypes.specs.Cell.{Cell}
@@ -23,6 +23,3 @@ written t cell d lent before xs after n m a p q h e back g =
       counted = full-len a t cell xs whole ∙ c ∙ e;
       each = λ i lt. full-row a t cell xs i d whole (subst (λ j. i < j) (sym (c ∙ e)) lt);
     }
-
-pub some_there : {X : Type 0} (o : Option X) (x : X) → o ≡ Some x → IsSome o
-some_there o x e = ap is_some e

@@ -1,15 +1,13 @@
--- What the loops with evidence leave at a row, and what that evidence is judged. The value and the evidence of a row are tied to one
--- answer of the callback, so that neither can come from another call.
+-- What the loops leave at a row, and what its evidence is judged. The value and the evidence of a row are tied to one answer of the
+-- callback, so that neither can come from another call.
 use Rattle.std.specs.Borrow.{Bor}
 use Rattle.std.specs.Prelude.{◌≡◌, ⊤, Option, Some, Result, Ok, Err}
 use Rattle.bitlane.specs.Maps.{MapsTo}
 use Rattle.colbase.specs.Arrays.{Array}
 use Rattle.coltypes.specs.Cell.{Cell}
-use Rattle.coltypes.specs.declared.fault.Fault.{Fault}
-use Rattle.coltypes.specs.declared.fault.Fault.TheVariants.{Row}
 use Rattle.coltypes.specs.declared.fault.RowError.{RowError}
-use Rattle.rowloops.specs.declared.retry.DenseAttempt.{DenseAttempt}
-use Rattle.rowloops.specs.declared.retry.DenseAttempt.TheVariants.{DeferredError, Values}
+use Rattle.rowloops.specs.declared.attempt.Attempt.{Attempt}
+use Rattle.rowloops.specs.declared.attempt.Attempt.TheVariants.{Rejected, Values}
 
 -- the row is the cell of an answer's value, and the evidence is that of the same answer
 pub record StatesChecked {X T E : Type 0} (may_be : X → Type 0) (post : X → T × E → Type 0) (states : T → Cell) (row : Option Cell) (evidence : E) : Type 0 where
@@ -21,17 +19,7 @@ pub record StatesChecked {X T E : Type 0} (may_be : X → Type 0) (post : X → 
 abbrev pub AnswersLent : {P X R : Type 0} → (Bor P → X → R → Type 0) → P → X → R → Type 0
 AnswersLent {P} post value x r = (q : Bor P) × (q.now ≡ value) × post q x r
 
--- the fault is the error that the evidence is judged
-pub record JudgedError (post : Result ⊤ RowError → Type 0) (e : Fault) : Type 0 where
-  pub error : RowError
-  pub judged : post (Err error)
-  pub is : e ≡ Row error
-
--- the values where the evidence is accepted, and else the error that it is judged
-abbrev pub Judges : (Result ⊤ RowError → Type 0) → Array → Result Array Fault → Type 0
-Judges post values (Ok a) = post (Ok tt) × (a ≡ values)
-Judges post values (Err e) = JudgedError post e
-
-abbrev pub AttemptIs : (Result ⊤ RowError → Type 0) → Array → DenseAttempt → Type 0
+-- the values where the evidence is accepted, and else what it is judged
+abbrev pub AttemptIs : (Result ⊤ RowError → Type 0) → Array → Attempt → Type 0
 AttemptIs post values (Values a) = post (Ok tt) × (a ≡ values)
-AttemptIs post values (DeferredError error) = post (Err error)
+AttemptIs post values (Rejected error) = post (Err error)

@@ -1,2 +1,3 @@
 -- What the loops over decoded rows answer.
 pub mod Answers
+pub mod Domain

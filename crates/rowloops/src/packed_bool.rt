@@ -1,5 +1,5 @@
-// The loop over all rows whose callback gives a truth value, which is packed into bits as it is answered.
-ghost use Rattle.std.specs.Prelude.{◌≡◌, ◌<◌, ◌≤◌, ℕ, length, true, IfOk, IfErr};
+// The run whose callback gives a truth value and doesn't fail. Those of all rows are packed into bits as they are answered.
+ghost use Rattle.std.specs.Prelude.{◌≡◌, ◌<◌, ◌≤◌, ℕ, length, true, Ok, Err, IfOk, IfErr, MatchResult};
 ghost use Rattle.bitlane.specs.Bits.{bit};
 ghost use Rattle.bitlane.specs.Maps.{MapsTo};
 ghost use Rattle.colbase.specs.Arrays.{dtype, len, row};
@@ -8,16 +8,69 @@ ghost use Rattle.coltypes.specs.LogicalType.{bool as bool_type};
 ghost use Rattle.coltypes.specs.declared.dtype.Nullability.TheVariants.{NonNullable as not_nullable};
 ghost use Rattle.rowouts.specs.Outputs.{StatesAnswer};
 ghost use Rattle.rowtypes.specs.Rows.{each_length};
+ghost use Rattle.rowloops.specs.Domain.{RunsTotal, domain_of};
 
-use bitlane::{BitBuffer, IndexedSource};
+use crate::domain::RowDomain;
+use crate::owned::execute_owned;
+use bitlane::{BitBuffer, IndexedSource, NoFailure};
 use colbase::{ArrayRef, BoolArray, ExecutionCtx, Fault, Res, Validity};
 use rowtypes::{ElementTuple, IndexedElementTuple, RowsVisitor};
 use std::alloc::AllocError;
 
-/// The answers of a callback that doesn't fail to all rows, collected as a column of truth values without nulls, and how
-/// often it was called. `multiversioned` selects the collector, and changes no result. Whether an argument is one value or a
-/// column is told before the loop.
-pub fn execute_owned_infallible_bool<Args: IndexedElementTuple, A: Fn(Args::Elems) -> bool>(
+/// The answers of a callback that doesn't fail to the rows of a domain, as a column of truth values without nulls whose other rows are
+/// false; and how often it was called. `multiversioned` selects the collector of all rows, and changes no result. Whether an argument is
+/// one value or a column is told before the loop.
+pub fn execute_owned_bool<Args: IndexedElementTuple, A: Fn(Args::Elems) -> bool>(
+    columns: &Args::Columns,
+    domain: RowDomain,
+    multiversioned: bool,
+    apply: A,
+    ctx: ExecutionCtx,
+) -> (Res<(ArrayRef, NoFailure)>, u128)
+    requires lengths { each_length (domain_of domain).width (Args.lengths columns.now) ≡ true }
+    requires callable { (i : ℕ) (e : Args.Elems) → i < (domain_of domain).width → (domain_of domain).selected i ≡ true
+        → Args.cells e ≡ Args.shows columns.now i → A.pre apply e }
+    ensures { RunsTotal (domain_of domain.entry) (λ i e. Args.cells e ≡ Args.shows columns.now i) (A.post apply)
+        truth (bool_type not_nullable) result.0 result.1 }
+{
+    match domain {
+        RowDomain::All(rows) => {
+            let (answer, steps) = execute_packed::<Args, A>(
+                columns,
+                rows,
+                multiversioned,
+                apply,
+                ctx,
+            );
+            (without_failure(answer), steps)
+        }
+        RowDomain::Marked(_) | RowDomain::Filtered(_) => {
+            execute_owned::<Args, bool, NoFailure, (), _>(
+                columns,
+                domain,
+                (),
+                |_lent: &(), elems: Args::Elems| -> (bool, NoFailure)
+                    requires { A.pre apply elems }
+                    ensures { A.post apply elems result.0 }
+                { (apply(elems), NoFailure) },
+                ctx,
+            )
+        }
+    }
+}
+
+// The same, with the evidence of no failure.
+fn without_failure(values: Res<ArrayRef>) -> Res<(ArrayRef, NoFailure)>
+    ensures { MatchResult values (λ a. result ≡ Ok (a, record {})) (λ e. result ≡ Err e) }
+{
+    match values {
+        Ok(values) => Ok((values, NoFailure)),
+        Err(fault) => Err(fault),
+    }
+}
+
+// The answers to all rows.
+fn execute_packed<Args: IndexedElementTuple, A: Fn(Args::Elems) -> bool>(
     columns: &Args::Columns,
     row_count: usize,
     multiversioned: bool,
@@ -28,7 +81,8 @@ pub fn execute_owned_infallible_bool<Args: IndexedElementTuple, A: Fn(Args::Elem
     requires callable { (i : ℕ) (e : Args.Elems) → i < row_count → Args.cells e ≡ Args.shows columns.now i → A.pre apply e }
     ensures dtype { IfOk result.0 (λ a. dtype a ≡ bool_type not_nullable) }
     ensures len { IfOk result.0 (λ a. len a ≡ row_count) }
-    ensures rows { IfOk result.0 (λ a. (i : ℕ) → i < row_count → StatesAnswer (λ e. Args.cells e ≡ Args.shows columns.now i) (λ e r. A.post apply e r) truth (row a i)) }
+    ensures rows { IfOk result.0 (λ a. (i : ℕ) → i < row_count
+        → StatesAnswer (λ e. Args.cells e ≡ Args.shows columns.now i) (λ e r. A.post apply e r) truth (row a i)) }
     ensures errors { IfErr result.0 (λ e. e ≡ Fault.Memory) }
     ensures most { result.1 ≤ row_count }
     ensures least { IfOk result.0 (λ _. row_count ≤ result.1) }
@@ -71,7 +125,10 @@ impl<'a, Args: ElementTuple, A: Fn(Args::Elems) -> bool> RowsVisitor<Args>
 
     ghost ready = { λ s. (i : ℕ) (e : Args.Elems) → i < s.row_count → Args.cells e ≡ Args.shows s.columns.now i → A.pre s.apply e };
 
-    ghost gives = { λ s r. IfOk r.0 (λ a. dtype a ≡ bool_type not_nullable) × IfOk r.0 (λ a. len a ≡ s.row_count) × IfOk r.0 (λ a. (i : ℕ) → i < s.row_count → StatesAnswer (λ e. Args.cells e ≡ Args.shows s.columns.now i) (λ e b. A.post s.apply e b) truth (row a i)) × IfErr r.0 (λ e. e ≡ Memory) × (r.1 ≤ s.row_count) × IfOk r.0 (λ _. s.row_count ≤ r.1) };
+    ghost gives = { λ s r. IfOk r.0 (λ a. dtype a ≡ bool_type not_nullable) × IfOk r.0 (λ a. len a ≡ s.row_count)
+        × IfOk r.0 (λ a. (i : ℕ) → i < s.row_count
+        → StatesAnswer (λ e. Args.cells e ≡ Args.shows s.columns.now i) (λ e b. A.post s.apply e b) truth (row a i))
+        × IfErr r.0 (λ e. e ≡ Memory) × (r.1 ≤ s.row_count) × IfOk r.0 (λ _. s.row_count ≤ r.1) };
 
     fn visit<S: IndexedSource<Item = Args::Elems> + Drop>(
         self,
@@ -91,7 +148,8 @@ fn pack_counted<S: IndexedSource, A: Fn(S::Item) -> bool>(
     requires callable { (i : ℕ) (x : S.Item) → i < S.count source.now → S.item_at source.now i x → A.pre apply x }
     ensures dtype { IfOk result.0 (λ a. dtype a ≡ bool_type not_nullable) }
     ensures len { IfOk result.0 (λ a. len a ≡ S.count source.now) }
-    ensures rows { IfOk result.0 (λ a. (i : ℕ) → i < S.count source.now → StatesAnswer (S.item_at source.now i) (λ x r. A.post apply x r) truth (row a i)) }
+    ensures rows { IfOk result.0 (λ a. (i : ℕ) → i < S.count source.now
+        → StatesAnswer (S.item_at source.now i) (λ x r. A.post apply x r) truth (row a i)) }
     ensures errors { IfErr result.0 (λ e. e ≡ Fault.Memory) }
     ensures most { result.1 ≤ S.count source.now }
     ensures least { IfOk result.0 (λ _. S.count source.now ≤ result.1) }

@@ -10,7 +10,6 @@ mod columns;
 #[cfg(test)]
 mod constants;
 #[cfg(test)]
-mod filtered_loops;
 #[cfg(test)]
 mod loops;
 #[cfg(test)]

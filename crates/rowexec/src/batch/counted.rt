@@ -1,23 +1,23 @@
 // The whole call, with the calls that it took: checks and plan, the answers that need no row, and the runs that the policy chooses.
-ghost use Rattle.std.specs.Prelude.{◌≡◌, ◌≢◌, ◌<◌, ◌≤◌, ◌⊎◌, ℕ, length, false, None, Err, IfOk, IfErr, is_some};
-ghost use Rattle.colbase.specs.Arrays.{row};
+ghost use Rattle.std.specs.Prelude.{◌≡◌};
 ghost use Rattle.rowtypes.specs.Rows.{logical_types};
 ghost use Rattle.rowplan.specs.Plans.{PlanOf};
 ghost use Rattle.rowexec.specs.Batch.{CallsNothing, Counts, Executes, ExecutesPlanned, Fits, Planned};
-ghost use Rattle.coltypes.specs.Valid.{Covers, valid_at};
-ghost use Rattle.rowexec.specs.Rows.{EachHasRows, full_cells, some_all_null, types_of};
+ghost use Rattle.rowexec.specs.Calls.{IsPlannedCall};
+ghost use Rattle.rowexec.specs.Rows.{types_of};
 ghost use Rattle.rowexec.specs.Visits.{RunsCall, Unsettled};
 
 use super::answer::{finish_values, null_answer};
-use super::dense::execute_dense;
 use super::full_rows::{full_rows, is_some_all_null};
-use super::one_row::execute_one_row;
+use super::one_row::execute_all_constant;
 use super::plan::plan_call;
-use super::retry::execute_with_retry;
+use super::retry::execute_dense_with_retry;
+use super::run::execute_dense;
 use super::selection::{Selection, select_rows};
 use super::valid::execute_valid;
+use crate::execution_args::RowFnExecutionArgs;
 use crate::visitor::Visited;
-use colbase::{ArrayRef, DType, ExecutionArgs, ExecutionCtx, Res, Validity};
+use colbase::{ArrayRef, DType, ExecutionArgs, ExecutionCtx, Res};
 use rowplan::{BatchPlan, RowFn};
 
 /// An answer, and how often the function's callbacks were called for it.
@@ -88,21 +88,33 @@ fn execute_planned<F: RowFn>(
     ensures counts { Counts (F.law options.now (types_of args.now.columns)) args.now.columns args.now.row_count result.answer
         result.prepares result.steps }
 {
-    if is_some_all_null(args.columns(), args.row_count()) {
-        return without_calls(null_answer(types, plan, args.row_count(), ctx));
+    let columns = args.columns();
+    let row_count = args.row_count();
+    if is_some_all_null(columns, row_count) {
+        return without_calls(null_answer(types, plan, row_count, ctx));
     }
-    let full = match full_rows(args.columns(), args.row_count(), ctx) {
+    let full = match full_rows(columns, row_count, ctx) {
         Ok(full) => full,
         Err(fault) => return without_calls(Err(fault)),
+    };
+    let call = RowFnExecutionArgs::<F> {
+        function,
+        options,
+        types,
+        columns,
+        row_count,
+        plan,
+        full: &full,
+        ctx,
     };
     let Visited {
         answer,
         prepares,
         steps,
-    } = execute_selected(function, options, args, types, plan, &full, ctx);
+    } = execute_selected(&call);
     let answer = match answer {
-        Ok(Some(values)) => finish_values::<F>(options, args, types, plan, values, &full, ctx),
-        Ok(None) => null_answer(types, plan, args.row_count(), ctx),
+        Ok(Some(values)) => finish_values(&call, values),
+        Ok(None) => null_answer(types, plan, row_count, ctx),
         Err(fault) => Err(fault),
     };
     Counted {
@@ -113,42 +125,19 @@ fn execute_planned<F: RowFn>(
 }
 
 // The values of the rows that run. None where some argument is null at each row.
-fn execute_selected<F: RowFn>(
-    function: &F,
-    options: &F::Options,
-    args: &ExecutionArgs,
-    types: &[DType],
-    plan: &BatchPlan,
-    full: &Validity,
-    ctx: ExecutionCtx,
-) -> Visited<Option<ArrayRef>>
-    requires types { logical_types types.now ≡ types_of args.now.columns }
-    requires arity { length args.now.columns ≡ (F.law options.now (types_of args.now.columns)).arity }
-    requires rows { EachHasRows args.now.row_count args.now.columns }
-    requires planned { Planned (F.law options.now (types_of args.now.columns)) (types_of args.now.columns) }
-    requires plan { PlanOf (F.law options.now (types_of args.now.columns)) plan.now }
-    requires some { some_all_null args.now.columns ≡ false }
-    requires tells { (i : ℕ) → i < args.now.row_count → valid_at full.now i ≡ is_some (full_cells args.now.columns i) }
-    requires covers { Covers full.now args.now.row_count }
-    ensures runs { RunsCall (F.law options.now (types_of args.now.columns)) args.now.columns args.now.row_count result.answer
-        result.prepares result.steps }
-    ensures unsettled { Unsettled (F.law options.now (types_of args.now.columns)) args.now.columns args.now.row_count result.answer }
+fn execute_selected<F: RowFn>(call: &RowFnExecutionArgs<F>) -> Visited<Option<ArrayRef>>
+    requires call { IsPlannedCall (F.law call.now.options.now (types_of call.now.columns.now)) (logical_types call.now.types.now)
+        call.now.columns.now call.now.row_count call.now.plan.now call.now.full.now }
+    ensures runs { RunsCall (F.law call.now.options.now (types_of call.now.columns.now)) call.now.columns.now call.now.row_count
+        result.answer result.prepares result.steps }
+    ensures unsettled { Unsettled (F.law call.now.options.now (types_of call.now.columns.now)) call.now.columns.now
+        call.now.row_count result.answer }
 {
-    let columns = args.columns();
-    let row_count = args.row_count();
-    match select_rows(plan.policy(), columns, row_count, full) {
-        Selection::One => {
-            execute_one_row(function, options, columns, types, row_count, ctx).some_values()
-        }
-        Selection::All => {
-            execute_dense(function, options, columns, types, row_count, ctx).some_values()
-        }
-        Selection::Attempt => {
-            execute_with_retry(function, options, columns, types, row_count, full, ctx)
-        }
-        Selection::Valid(bits) => {
-            execute_valid(function, options, columns, types, &bits, ctx).some_values()
-        }
+    match select_rows(call.plan.policy(), call.columns, call.row_count, call.full) {
+        Selection::One => execute_all_constant(call),
+        Selection::All => execute_dense(call),
+        Selection::Attempt => execute_dense_with_retry(call),
+        Selection::Valid(bits) => execute_valid(call, &bits),
         Selection::Nothing => Visited::before_the_rows(Ok(None), 0),
     }
 }

@@ -1,16 +1,18 @@
 // One row that stands for all rows of a batch of constants, so that such a batch takes one call whatever its length.
-ghost use Rattle.std.specs.Prelude.{◌≡◌, ◌<◌, ◌⊎◌, ℕ, length, true, IfOk, IfErr};
+ghost use Rattle.std.specs.Prelude.{◌≡◌, ◌<◌, ℕ, true, IfOk, IfErr};
 ghost use Rattle.colbase.specs.Arrays.{dtype, len, row};
 ghost use Rattle.coltypes.specs.declared.fault.Fault.TheVariants.{Memory};
 ghost use Rattle.rowtypes.specs.Rows.{logical_types};
-ghost use Rattle.rowexec.specs.Batch.{Planned};
+ghost use Rattle.rowexec.specs.Calls.{IsPlannedCall};
 ghost use Rattle.rowexec.specs.Counts.{each_one_value, is_one_value, one_row};
 ghost use Rattle.rowexec.specs.Rows.{EachHasRows, IsConstant, types_of};
-ghost use Rattle.rowexec.specs.Visits.{RunsDense};
+ghost use Rattle.rowexec.specs.Visits.{RepeatsRow, RunsSteps};
 
-use super::dense::execute_dense;
+use super::run::execute_row_kernel;
+use crate::execution_args::RowFnExecutionArgs;
 use crate::visitor::Visited;
-use colbase::{ArrayRef, ConstantArray, DType, ExecutionCtx, Res, ValidityKind};
+use colbase::{ArrayRef, ConstantArray, ExecutionCtx, Res, ValidityKind};
+use rowloops::RowDomain;
 use rowplan::RowFn;
 use rowtypes::batch_const;
 
@@ -45,28 +47,23 @@ fn is_one_value(column: &ArrayRef) -> bool
 }
 
 /// The values of all rows by one row, as a constant.
-pub(super) fn execute_one_row<F: RowFn>(
-    function: &F,
-    options: &F::Options,
-    columns: &[ArrayRef],
-    types: &[DType],
-    row_count: usize,
-    ctx: ExecutionCtx,
-) -> Visited<ArrayRef>
-    requires types { logical_types types.now ≡ types_of columns.now }
-    requires arity { length columns.now ≡ (F.law options.now (types_of columns.now)).arity }
-    requires planned { Planned (F.law options.now (types_of columns.now)) (types_of columns.now) }
-    requires rows { EachHasRows row_count columns.now }
-    requires one { one_row row_count columns.now ≡ true }
-    ensures { RunsDense (F.law options.now (types_of columns.now)) columns.now row_count 1 result.answer result.prepares result.steps }
+pub(super) fn execute_all_constant<F: RowFn>(
+    call: &RowFnExecutionArgs<F>,
+) -> Visited<Option<ArrayRef>>
+    requires call { IsPlannedCall (F.law call.now.options.now (types_of call.now.columns.now)) (logical_types call.now.types.now)
+        call.now.columns.now call.now.row_count call.now.plan.now call.now.full.now }
+    requires one { one_row call.now.row_count call.now.columns.now ≡ true }
+    ensures { RunsSteps (F.law call.now.options.now (types_of call.now.columns.now)) call.now.columns.now call.now.row_count 1 1
+        result.answer result.prepares result.steps }
 {
     let Visited {
         answer,
         prepares,
         steps,
-    } = execute_dense(function, options, columns, types, 1, ctx);
+    } = execute_row_kernel(call, call.columns, RowDomain::All(1)).decided();
     let answer = match answer {
-        Ok(row) => repeated(&row, row_count, ctx),
+        Ok(Some(row)) => repeated_row(&row, call.row_count, call.ctx),
+        Ok(None) => Ok(None),
         Err(fault) => Err(fault),
     };
     Visited {
@@ -74,6 +71,15 @@ pub(super) fn execute_one_row<F: RowFn>(
         prepares,
         steps,
     }
+}
+
+// The values of all rows by those of one.
+fn repeated_row(values: &ArrayRef, row_count: usize, ctx: ExecutionCtx) -> Res<Option<ArrayRef>>
+    requires { 0 < len values.now }
+    ensures { RepeatsRow values.now row_count result }
+{
+    let repeated = repeated(values, row_count, ctx)?;
+    Ok(Some(repeated))
 }
 
 /// The first row in each of this many rows, as a constant.

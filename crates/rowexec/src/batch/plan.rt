@@ -50,7 +50,8 @@ pub(super) fn plan_batch<F: RowFn>(
     requires { length types.now ≡ (F.law options.now (logical_types types.now)).arity }
     ensures planned { IfOk result (λ _. Planned (F.law options.now (logical_types types.now)) (logical_types types.now)) }
     ensures plan { IfOk result (PlanOf (F.law options.now (logical_types types.now))) }
-    ensures errors { IfErr result (λ e. (e ≡ Memory) ⊎ Unplanned (F.law options.now (logical_types types.now)) (logical_types types.now) e) }
+    ensures errors { IfErr result (λ e. (e ≡ Memory)
+        ⊎ Unplanned (F.law options.now (logical_types types.now)) (logical_types types.now) e) }
 {
     let planner = BatchPlanner::<F>::new(options, types, ctx);
     function.dispatch(options, types, planner, ctx)

@@ -1,10 +1,12 @@
-// What the executing visitors answer. A fault of the execution stands within, beside the counts; the visit itself fails only by want
-// of memory, as a dispatch does.
-ghost use Rattle.std.specs.Prelude.{◌≡◌, ◌<◌, ◌+◌, ◌^◌, Err, MatchResult, Ok, Some};
-ghost use Rattle.rowloops.specs.declared.retry.DenseAttempt.TheVariants.{Values};
+// What the executing visitor answers, and what follows of it. A fault of the execution stands within, beside the counts; the visit
+// itself fails only by want of memory, as a dispatch does.
+ghost use Rattle.std.specs.Prelude.{◌≡◌, ◌<◌, ◌+◌, ◌^◌, ⊤, Err, Ok, None, Some, MatchOption, MatchResult};
+ghost use Rattle.rowloops.specs.declared.attempt.Attempt.TheVariants.{Values};
+ghost use Rattle.rowexec.specs.RowRuns.{Decides, JudgedAs};
 
-use colbase::{ArrayRef, Res};
-use rowloops::DenseAttempt;
+use bitlane::NoFailure;
+use colbase::{ArrayRef, Fault, Res, RowError};
+use rowloops::Attempt;
 
 /// What a visit answered, and how often it called.
 #[derive(Drop)]
@@ -47,16 +49,42 @@ impl<T> Visited<T> {
     }
 }
 
-impl Visited<ArrayRef> {
-    /// The same, where values may be missing but aren't.
-    pub(crate) fn some_values(self) -> Visited<Option<ArrayRef>>
-        ensures answer { MatchResult self.answer (λ a. result.answer ≡ Ok (Some a)) (λ e. result.answer ≡ Err e) }
+impl<V: Drop> Visited<Option<(ArrayRef, V)>> {
+    /// A visit whose rows ran.
+    pub(crate) fn ran(answer: Res<(ArrayRef, V)>, steps: u128) -> Visited<Option<(ArrayRef, V)>>
+        ensures answer { MatchResult answer (λ r. result.answer ≡ Ok (Some r)) (λ e. result.answer ≡ Err e) }
+        ensures prepares { result.prepares ≡ 1 }
+        ensures steps { result.steps ≡ steps }
+    {
+        let answer = match answer {
+            Ok(joined) => Ok(Some(joined)),
+            Err(fault) => Err(fault),
+        };
+        Visited {
+            answer,
+            prepares: 1,
+            steps,
+        }
+    }
+
+    /// The same, once the joined evidence is judged.
+    pub(crate) fn judged<E: FnOnce(V) -> Result<(), RowError>>(
+        self,
+        finish_failure: E,
+    ) -> Visited<Option<Attempt>>
+        requires { MatchResult self.answer (λ o. MatchOption o ⊤ (λ r. E.pre finish_failure r.1)) (λ e. ⊤) }
+        ensures answer { JudgedAs (λ v. E.post finish_failure v) self.answer result.answer }
         ensures prepares { result.prepares ≡ self.prepares }
         ensures steps { result.steps ≡ self.steps }
     {
         let told = self.answer;
         let answer = match told {
-            Ok(values) => Ok(Some(values)),
+            Ok(Some((values, evidence))) => Ok(Some(Attempt::judged::<V, E>(
+                values,
+                evidence,
+                finish_failure,
+            ))),
+            Ok(None) => Ok(None),
             Err(fault) => Err(fault),
         };
         Visited {
@@ -65,15 +93,42 @@ impl Visited<ArrayRef> {
             steps: self.steps,
         }
     }
-    /// The same as an attempt in which nothing was rejected.
-    pub(crate) fn accepted(self) -> Visited<DenseAttempt>
-        ensures answer { MatchResult self.answer (λ a. result.answer ≡ Ok (Values a)) (λ e. result.answer ≡ Err e) }
+}
+
+impl Visited<Option<(ArrayRef, NoFailure)>> {
+    /// The same as an attempt, in which nothing can be rejected.
+    pub(crate) fn accepted(self) -> Visited<Option<Attempt>>
+        ensures answer { MatchResult self.answer
+            (λ o. MatchOption o (result.answer ≡ Ok None) (λ r. result.answer ≡ Ok (Some (Values r.0)))) (λ e. result.answer ≡ Err e) }
         ensures prepares { result.prepares ≡ self.prepares }
         ensures steps { result.steps ≡ self.steps }
     {
         let told = self.answer;
         let answer = match told {
-            Ok(values) => Ok(DenseAttempt::Values(values)),
+            Ok(Some((values, NoFailure))) => Ok(Some(Attempt::Values(values))),
+            Ok(None) => Ok(None),
+            Err(fault) => Err(fault),
+        };
+        Visited {
+            answer,
+            prepares: self.prepares,
+            steps: self.steps,
+        }
+    }
+}
+
+impl Visited<Option<Attempt>> {
+    /// The same where no row but those that count ran, so that rejected evidence is a fault.
+    pub(crate) fn decided(self) -> Visited<Option<ArrayRef>>
+        ensures answer { Decides self.answer result.answer }
+        ensures prepares { result.prepares ≡ self.prepares }
+        ensures steps { result.steps ≡ self.steps }
+    {
+        let told = self.answer;
+        let answer = match told {
+            Ok(Some(Attempt::Values(values))) => Ok(Some(values)),
+            Ok(Some(Attempt::Rejected(error))) => Err(Fault::Row(error)),
+            Ok(None) => Ok(None),
             Err(fault) => Err(fault),
         };
         Visited {

@@ -1,9 +1,7 @@
 use Rattle.std.proofs.Common.{◌∙◌, ◌<◌, length, get_or, Some, ap, subst, sym}
-use Rattle.colbase.specs.Arrays.{row}
 use Rattle.rowouts.proofs.Columns.{full-len, full-row}
 use Rattle.bitlane.specs.Bits.{bit}
 use Rattle.bitlane.proofs.Joins.{Joined-map}
-use Rattle.rowloops.proofs.Written.{some_there}
 use Rattle.rowloops.proofs.valid_rows.build_valid_rows.Goals as goal
 
 pub returns-in-Ok-column_of-clause-len : goal.returns-in-Ok-column_of-clause-len
@@ -23,10 +21,3 @@ returns-in-Ok-column_of-clause-rows g c =
       is = full-row c.in-Ok-column_of.column V.value_type V.value_cell xs i d c.in-Ok-column_of.ensures.column (subst (λ m. i < m) (sym c.in-Ok.ensures.len) below) ∙ ap (λ x. Some x) (g.met.Out.OutputElement.value_states (get_or xs i d));
     })
     c.in-Ok.ensures.joined
-
-pub returns-in-Ok-column_of-clause-not_null : goal.returns-in-Ok-column_of-clause-not_null
-returns-in-Ok-column_of-clause-not_null g c =
-    let xs = c.in-Ok.values.items in
-    let V = g.Out.ColumnValue in
-    let d = g.Out.OutputElement.placeholder in
-    λ i below. some_there (row c.in-Ok-column_of.column i) (V.value_cell (get_or xs i d)) (full-row c.in-Ok-column_of.column V.value_type V.value_cell xs i d c.in-Ok-column_of.ensures.column (subst (λ m. i < m) (sym c.in-Ok.ensures.len) below))

@@ -1,44 +1,59 @@
-use Rattle.std.proofs.Common.{◌≡◌, ◌∙◌, List, inl, inr, length, ap, sym, subst}
+use Rattle.std.proofs.Common.{ℕ, List, inl, inr, arith, subst, sym}
 use Rattle.colbase.specs.Arrays.{Array}
-use Rattle.rowtypes.specs.Rows.{logical_types}
-use Rattle.rowexec.specs.Rows.{types_of}
-use Rattle.rowexec.specs.Selections.{FilteredFrom}
-use Rattle.rowexec.proofs.Batches.{as_many_types}
-use Rattle.rowexec.proofs.Filtered.{full_kept, ran_kept, rows_kept, types_kept}
-use Rattle.rowexec.proofs.StrictRows.{accepted_from}
-use Rattle.rowplan.proofs.Types.{as_many}
+use Rattle.coltypes.specs.Keep.{trues}
+use Rattle.rowexec.specs.Rows.{EachHasRows, types_of}
+use Rattle.rowexec.specs.Selections.{FilteredFrom, MarksFullRows}
+use Rattle.rowexec.proofs.Batches.{each_decoded}
+use Rattle.rowexec.proofs.Deciding.{failed_run}
+use Rattle.rowexec.proofs.Filtered.{filtered_run, full_kept, rows_kept, types_kept}
 use Rattle.rowexec.proofs.batch.valid.execute_filtered.Goals as goal
 
-pub dispatch-requires-clause-arity : goal.dispatch-requires-clause-arity
-dispatch-requires-clause-arity g c = sym (as_many c.args.types.now) ∙ ap length c.requires.types ∙ as_many_types c.args.columns.now ∙ c.requires.arity ∙ ap (λ t. (g.F.RowSpec.law c.args.options.now t).arity) (sym c.requires.types)
+pub filter_columns-requires : goal.filter_columns-requires
+filter_columns-requires g c =
+    let Rows : ℕ → Type 0 = λ k. EachHasRows k c.args.call.now.columns.now in
+    subst Rows (sym c.requires.full.counted) c.requires.call.rows
 
-pub dispatch-requires-clause-ready : goal.dispatch-requires-clause-ready
-dispatch-requires-clause-ready g c =
-    let columns = c.args.columns.now in
-    let news = c.as_slice.result.now in
-    let marks = c.args.valid.now in
-    let types = logical_types c.args.types.now in
-    let From : List Array → Type 0 = λ xs. FilteredFrom marks columns xs in
-    let from : FilteredFrom marks columns news = subst From (sym c.as_slice.ensures.value) c.in-Ok.ensures.filtered in
-    let same : types ≡ types_of news = c.requires.types ∙ sym (types_kept marks columns news from) in
-    record {
-      types_are = same;
-      accepted = accepted_from (g.F.RowSpec.law c.args.options.now types).arguments.accepts 0 news (cc (same, c.requires.types, c.requires.planned.fit));
-      rows = rows_kept marks columns news c.requires.rows from;
-      full = full_kept marks columns news c.requires.rows c.requires.full from;
-    }
+pub execute_row_kernel-requires-clause-types : goal.execute_row_kernel-requires-clause-types
+execute_row_kernel-requires-clause-types g c =
+    let columns = c.args.call.now.columns.now in
+    let From : List Array → Type 0 = λ xs. FilteredFrom c.args.valid.now columns xs in
+    types_kept c.args.valid.now columns c.as_slice.result.now (subst From (sym c.as_slice.ensures.value) c.in-Ok.ensures.filtered)
 
-pub returns-in-Ok-dispatch : goal.returns-in-Ok-dispatch
-returns-in-Ok-dispatch g c =
-    let columns = c.args.columns.now in
-    let news = c.as_slice.result.now in
+pub execute_row_kernel-requires-clause-asked : goal.execute_row_kernel-requires-clause-asked
+execute_row_kernel-requires-clause-asked g c =
+    let columns = c.args.call.now.columns.now in
     let marks = c.args.valid.now in
-    let options = c.args.options.now in
-    let types = logical_types c.args.types.now in
+    let Rows : ℕ → Type 0 = λ k. EachHasRows k columns in
     let From : List Array → Type 0 = λ xs. FilteredFrom marks columns xs in
-    let from : FilteredFrom marks columns news = subst From (sym c.as_slice.ensures.value) c.in-Ok.ensures.filtered in
-    let visited = c.in-Ok-dispatch.visited in
-    elim (c.in-Ok-dispatch.ensures.gives (ap (λ t. (g.F.RowSpec.law options t).accepts) c.requires.types ∙ c.requires.planned.accepted)) [
-      | inl e ↦ absurd (cc)
-      | inr ran ↦ ran_kept (g.F.RowSpec.law options) types (types_of columns) marks columns news visited.answer visited.prepares visited.steps c.requires.types c.requires.rows c.requires.full from ran
-    ]
+    each_decoded (trues marks) c.as_slice.result.now (rows_kept marks columns c.as_slice.result.now (subst Rows (sym c.requires.full.counted) c.requires.call.rows) (subst From (sym c.as_slice.ensures.value) c.in-Ok.ensures.filtered))
+
+pub execute_row_kernel-requires-clause-runs : goal.execute_row_kernel-requires-clause-runs
+execute_row_kernel-requires-clause-runs g c =
+    let columns = c.args.call.now.columns.now in
+    let marks = c.args.valid.now in
+    let Rows : ℕ → Type 0 = λ k. EachHasRows k columns in
+    let Full : ℕ → Type 0 = λ k. MarksFullRows columns k marks in
+    let From : List Array → Type 0 = λ xs. FilteredFrom marks columns xs in
+    inr (λ i h s. full_kept marks columns c.as_slice.result.now (subst Rows (sym c.requires.full.counted) c.requires.call.rows) (subst Full (sym c.requires.full.counted) c.requires.full) (subst From (sym c.as_slice.ensures.value) c.in-Ok.ensures.filtered) i h)
+
+pub returns-in-Err : goal.returns-in-Err
+returns-in-Err g c =
+    let call = c.args.call.now in
+    let columns = call.columns.now in
+    let n = call.row_count in
+    let law = g.F.RowSpec.law call.options.now (types_of columns) in
+    let s = c.before_the_rows in
+    failed_run law columns n _ 1 s.result.answer c.in-Err.fault s.result.prepares s.result.steps s.ensures.answer (inl (inl c.in-Err.ensures.errors)) (omega (arith, s.ensures.prepares)) (omega (arith, s.ensures.steps))
+
+pub returns : goal.returns
+returns g c =
+    let call = c.args.call.now in
+    let columns = call.columns.now in
+    let n = call.row_count in
+    let law = g.F.RowSpec.law call.options.now (types_of columns) in
+    let marks = c.args.valid.now in
+    let From : List Array → Type 0 = λ xs. FilteredFrom marks columns xs in
+    let told = c.execute_row_kernel in
+    let given = c.decided in
+    filtered_run law columns n c.as_slice.result.now marks told.result.answer given.result.answer told.result.prepares told.result.steps given.result.prepares given.result.steps given.ensures.answer given.ensures.prepares given.ensures.steps
+    c.requires.call.rows c.requires.full (subst From (sym c.as_slice.ensures.value) c.in-Ok.ensures.filtered) told.ensures

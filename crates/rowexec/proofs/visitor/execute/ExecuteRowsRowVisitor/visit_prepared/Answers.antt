@@ -1,67 +1,23 @@
-use Rattle.std.proofs.Common.{◌≡◌, ◌∙◌, ◌<◌, ℕ, List, length, sym, ap, subst, refl, inl, arith}
-use Rattle.std.specs.Prelude.{Some}
-use Rattle.coltypes.specs.Cell.{Cell}
-use Rattle.rowtypes.specs.Rows.{AgreesWith, ReadsFrom, ReadsKnown, each_length, logical_types}
-use Rattle.rowtypes.proofs.Lengths.{has_row}
-use Rattle.rowexec.specs.Rows.{full_cells}
-use Rattle.rowexec.proofs.Batches.{accepts_same, as_many_types, fails_same, shown_same}
-use Rattle.rowexec.proofs.FullRows.{shown_full}
-use Rattle.rowexec.proofs.Known.{agrees_at, ran, reads_known}
-use Rattle.rowexec.proofs.Reading.{reads_full, row_reads}
-use Rattle.rowexec.proofs.Valid.{failed_before}
+use Rattle.std.proofs.Common.{rules}
+use Rattle.rowtypes.specs.Rows.{logical_types}
+use Rattle.rowloops.specs.Domain.{domain_of}
+use Rattle.rowexec.proofs.Judging.{accepted_ran}
+use Rattle.rowexec.proofs.Laws.{accepts_neutral, joins_lawfully}
+use Rattle.rowexec.proofs.Running.{accepted_over}
 use Rattle.rowexec.proofs.visitor.execute.ExecuteRowsRowVisitor.visit_prepared.Goals as goal
-use Rattle.rowexec.proofs.Laws.{accepts_neutral}
-use Rattle.rowexec.specs.Evidence.{RowsFail}
-
-pub decode-requires-clause-arity : goal.decode-requires-clause-arity
-decode-requires-clause-arity g c = sym (as_many_types c.args.self.columns.now) ∙ ap length (sym c.requires.ready.types_are) ∙ c.requires.arguments.count ∙ sym c.requires.arguments.arity_is
-
-pub decode-requires-clause-types : goal.decode-requires-clause-types
-decode-requires-clause-types g c = accepts_same g.Args.ElementTuple.elements.accepts (g.F.RowSpec.law c.args.self.options.now (logical_types c.args.self.types.now)).arguments.accepts c.requires.arguments.accepts 0 c.args.self.columns.now c.requires.ready.accepted
-
-pub returns-in-Err : goal.returns-in-Err
-returns-in-Err g c = failed_before _ _ _ c.before_the_rows.result.answer c.in-Err.fault c.before_the_rows.result.prepares c.before_the_rows.result.steps c.before_the_rows.ensures.answer (omega (arith, c.before_the_rows.ensures.prepares)) c.before_the_rows.ensures.steps (inl (fails_same g.Args.ElementTuple.elements.reads (g.F.RowSpec.law c.args.self.options.now (logical_types c.args.self.types.now)).arguments.reads c.requires.arguments.reads 0 c.args.self.columns.now c.in-Err.fault c.in-Err.ensures.errors))
-
-pub known_values-requires : goal.known_values-requires
-known_values-requires g c = subst (λ known. ReadsKnown g.Args.ElementTuple.elements.reads 0 known) (sym c.in-Ok.ensures.known) (reads_known g.Args.ElementTuple.elements.reads 0 c.args.self.columns.now c.in-Ok.ensures.read)
-
-pub execute_owned_infallible-answer-requires-clause-lengths : goal.execute_owned_infallible-answer-requires-clause-lengths
-execute_owned_infallible-answer-requires-clause-lengths g c = ap (each_length c.args.self.row_count) c.in-Ok.ensures.lengths ∙ c.requires.ready.asked
-
-pub execute_owned_infallible-answer-requires-clause-callable : goal.execute_owned_infallible-answer-requires-clause-callable
-execute_owned_infallible-answer-requires-clause-callable g c = λ i e h k.
-    let T = g.Args.ElementTuple in
-    let tuple = g.met.Args.ElementTuple in
-    let decoded = c.in-Ok.decoded in
-    let known = c.known_values.result in
-    let columns = c.args.self.columns.now in
-    let there = has_row c.args.self.row_count (T.lengths decoded) (ap (each_length c.args.self.row_count) c.in-Ok.ensures.lengths ∙ c.requires.ready.asked) i h in
-    let at : ReadsFrom T.elements.reads 0 (T.shows decoded i) = row_reads (g.F.RowSpec.law c.args.self.options.now (logical_types c.args.self.types.now)).policy T.DENSE_SAFE T.DECODE_INFALLIBLE T.elements.reads T.elements.shown tuple.shown_constant tuple.shown_row c.args.self.row_count columns i (T.shows decoded i) c.requires.policy (λ d. c.in-Ok.ensures.dense d i there) (c.in-Ok.ensures.same i there) c.in-Ok.ensures.read h c.requires.ready.runs in
-    let read : ReadsFrom T.elements.reads 0 (T.cells e) = subst (λ cells. ReadsFrom T.elements.reads 0 cells) (sym k) at in
-    let agree : AgreesWith (T.known known) (T.cells e) = agrees_at (T.known known) (T.known_of decoded) (T.cells e) (T.shows decoded i) c.known_values.ensures.known k (g.met.Args.ElementTuple.known_agrees decoded i) in
-    c.requires.computes.callable known c.in-Ok-prepare.prepared _ e c.known_values.ensures.read c.in-Ok-prepare.ensures refl read agree
 
 pub returns : goal.returns
 returns g c =
-    let self = c.args.self in
-    let types = logical_types self.types.now in
-    let law = g.F.RowSpec.law self.options.now types in
-    let columns = self.columns.now in
-    let n = self.row_count in
-    let T = g.Args.ElementTuple in
-    let decoded = c.in-Ok.decoded in
-    let known = c.known_values.result in
-    let lengths = ap (each_length n) c.in-Ok.ensures.lengths ∙ c.requires.ready.asked in
-    let there = λ (i : ℕ) (h : i < n). has_row n (T.lengths decoded) lengths i h in
-    let same = λ (i : ℕ) (h : i < n). c.in-Ok.ensures.same i (there i h) ∙ shown_same T.elements.shown law.arguments.shown c.requires.arguments.shown 0 columns i in
-    let tuple = g.met.Args.ElementTuple in
-    let at = λ (i : ℕ) (h : i < n). row_reads law.policy T.DENSE_SAFE T.DECODE_INFALLIBLE T.elements.reads T.elements.shown tuple.shown_constant tuple.shown_row n columns i (T.shows decoded i) c.requires.policy (λ d. c.in-Ok.ensures.dense d i (there i h)) (c.in-Ok.ensures.same i (there i h)) c.in-Ok.ensures.read h c.requires.ready.runs in
-    let full = λ (i : ℕ) (cells : List Cell) (h : full_cells columns i ≡ Some cells). sym (shown_same T.elements.shown law.arguments.shown c.requires.arguments.shown 0 columns i) ∙ shown_full T.elements.shown g.met.Args.ElementTuple.shown_constant g.met.Args.ElementTuple.shown_row 0 columns i cells h in
-    let read = reads_full law T.elements.reads columns n c.requires.arguments.reads c.requires.ready.asked c.in-Ok.ensures.read in
-    let ran_loop = c.execute_owned_infallible-answer in
-    ran ran_loop.result.0 n ran_loop.result.1 law (RowsFail law columns n) g.Out.OutputElement.element_type columns T.cells (T.shows decoded) g.Out.OutputElement.states
-    (accepts_neutral (g.met.F.RowSpec.lawful self.options.now types)) c.requires.output.storage same
-    (λ i h x y k p. c.requires.computes.agrees known c.in-Ok-prepare.prepared _ x y c.known_values.ensures.read c.in-Ok-prepare.ensures refl
-    (subst (λ cells. ReadsFrom T.elements.reads 0 cells) (sym k) (at i h))
-    (agrees_at (T.known known) (T.known_of decoded) (T.cells x) (T.shows decoded i) c.known_values.ensures.known k (g.met.Args.ElementTuple.known_agrees decoded i)) p)
-    full read ran_loop.ensures.dtype ran_loop.ensures.len ran_loop.ensures.rows ran_loop.ensures.errors ran_loop.ensures.most ran_loop.ensures.least
+    let args = c.args.self.args in
+    let columns = args.columns.now in
+    let domain = domain_of args.domain in
+    let law = g.F.RowSpec.law args.options.now (logical_types args.types.now) in
+    let lawful = g.met.F.RowSpec.lawful args.options.now (logical_types args.types.now) in
+    let V = g.F.Evidence.FailureEvidence in
+    let ran = c.run_rows-ran in
+    let given = c.accepted in
+    accepted_ran law columns domain _ ran.result.answer given.result.answer ran.result.prepares ran.result.steps given.result.prepares given.result.steps given.ensures.answer given.ensures.prepares given.ensures.steps
+    (λ r j. accepted_over V.in_range law _ _ _ _ _ columns domain r.0 r.1 (joins_lawfully lawful V.laws) (accepts_neutral lawful) (λ of. lawful.no_evidence of c.requires.undeferred)
+    (λ e b p. c.requires.computes.agrees p.of p.value p.lent e b.0 p.known_read p.is_prepared p.is_lent p.read p.agrees (let h = p.answers in search rules))
+    j)
+    ran.ensures
